@@ -49,7 +49,7 @@ BROKEN = (
     ((line(("keyword", "return"), ("punct", " "), ("register", "eax"), ("punct", ";")),), 0, "a Register in this line is no 64-bit register (as rax, r8)"),
     ((line(("keyword", "return"), ("punct", " "), ("number", "01"), ("punct", ";")),), 0, "a Number in this line has a plus, a second minus or a zero in front"),
     ((line(("keyword", "return"), ("punct", " "), ("number", "+1"), ("punct", ";")),), 0, "a Number in this line has a plus, a second minus or a zero in front"),
-    ((line(("keyword", "return"), ("punct", " "), ("number", "1x"), ("punct", ";")),), 0, "a Number in this line is none that C reads"),
+    ((line(("keyword", "return"), ("punct", " "), ("number", "1x"), ("punct", ";")),), 0, "a Number in this line is none that the profile reads"),
     ((line(("keyword", "return"), ("punct", " "), ("symbol", "f"), ("punct", ";")),), 0, "a token in this line is no Register, Number or Punct"),
     ((line(("keyword", "return"), ("register", "rax"), ("punct", ";")),), 0, "behind the return of this line stands no blank"),
     ((ONE_REGISTER, line(("register", "rcx"), ("punct", "="), ("register", "rax"), ("punct", ";")), line(*RETURN)), 1,

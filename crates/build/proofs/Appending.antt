@@ -1,15 +1,16 @@
 -- What the stores of an append come to. Assumes nothing.
-use Prim.Native.Nat.{ℕ, ◌+◌, ◌≤◌, ◌<◌}
+use Prim.Native.Nat.{ℕ, ◌+◌, ◌-◌, ◌≤◌, ◌<◌}
 use native.Mathlib.Omega.{arith}
 use native.Mathlib.Nat.{le_refl}
 use mathlib.Core.Path.{◌≡◌, refl, sym, ap, ◌∙◌}
 use mathlib.Core.List.{List, ◌++◌}
 use lib.ListN.{length, get_or, set, take, drop, length-append, length-drop}
-use lib.Seq.{paste, take-take, take_all, take_at, take-set-le, drop-append-le, get_or-set_same, length-take-le}
+use lib.Seq.{paste, take-length, take-take, take_all, take_at, take-set-le, drop_at, drop-append-le, get_or-set_same, length-take-le}
 use Rattle.reference.specs.Text.{Text}
 use Rattle.reference.specs.Listing.{Token, token}
-use Rattle.lines.specs.Words.{kind_of, buffer_of, start_of, len_of, word, text_of, token_of, Points}
-use Rattle.lines.proofs.words.Tokens.{kind_below, start_below, word_place, word_start, word_len, word-means, word-points, in_tape, in_area, take_behind, behind-points, behind-means}
+use Rattle.laws.proofs.Parts.{drop-take}
+use Rattle.lines.specs.Words.{kind_of, buffer_of, start_of, len_of, known_word, moved, source, text_of, token_of, Points}
+use Rattle.lines.proofs.words.Tokens.{coded_same, kind_below, start_below, known_place, known_start, known_len, known-means, known-points, moved_place, moved_start, moved-len, moved-means, moved-points, text_length, in_tape, in_area, take_behind}
 use Rattle.lines.specs.declared.texts.Size.{Size}
 use Rattle.build.specs.State.{used, Room, Appends}
 
@@ -46,23 +47,24 @@ module _ (tape area : Text) (tokens : List ℕ) (at : Size) (keep : ℕ) (s : Te
 
 -- ---- the words that are stored
 
-pub place_at : (tokens : List ℕ) (keep k start len : ℕ) {v : ℕ} → keep < length tokens → k < 8 → start < 65536 → v ≡ word k 1 start len
+pub place_at : (tokens : List ℕ) (keep k start : ℕ) (s : Text) {v : ℕ} → keep < length tokens → k < 8 → start < 65536 → length s < 65536 → v ≡ known_word k 1 start s
     → buffer_of (get_or (set tokens keep v) keep 0) ≡ 1
-place_at tokens keep k start len {v} below hk hs ev = ap buffer_of (get_or-set_same tokens keep v 0 below ∙ ev) ∙ word_place k 1 start len hk (omega arith) hs
+place_at tokens keep k start s {v} below hk hs hl ev = ap buffer_of (get_or-set_same tokens keep v 0 below ∙ ev) ∙ known_place k 1 start s hk (omega arith) hs hl
 
 -- a token with a copy of its text
 module _ (tape area : Text) (tokens : List ℕ) (at : Size) (k : ℕ) (s : Text) (hk : k < 8) (r : Room area tokens at (length s) 1) where
-  pub copied : {area' : Text} {v : ℕ} → area' ≡ paste area at.text s (length s) → v ≡ word k 1 at.text (length s)
+  pub copied : {area' : Text} {v : ℕ} → area' ≡ paste area at.text s (length s) → v ≡ known_word k 1 at.text s
       → Appends tape area tokens at at.tokens (token k s) (length s) area' (set tokens at.tokens v) (record { lines = at.lines; tokens = at.tokens + 1; text = at.text + length s })
   copied e ev =
       let ul : length (used area at) ≡ at.text = length-take-le at.text area (omega (arith, r.text_fits)) in
       let hs : at.text < 65536 = omega (arith, r.short) in
       let hl : length s < 65536 = omega (arith, r.short) in
+      let here : take (length s) (drop at.text (source tape (used area at ++ s) 1)) ≡ s = rw (in_area tape (used area at ++ s) one_not_zero, drop_at (used area at) s at.text ul, take-length) in
       stored tape area tokens at at.tokens s r.text_fits (omega (arith, r.words_fit)) e ev
-      (behind-points tape (used area at) s k at.text hk ul r.short)
-      (behind-means tape (used area at) s k at.text hk ul r.short)
-      (λ _. rw (word_start k 1 at.text (length s) hk (omega arith) hs, word_len k 1 at.text (length s) hk (omega arith) hs hl))
-      (λ m h _ _. rw (word_start k 1 at.text (length s) hk (omega arith) hs) h)
+      (known-points k 1 at.text s hk (omega arith) hs hl tape (used area at ++ s) here (rw (in_area tape (used area at ++ s) one_not_zero, length-append) (omega arith)) r.short)
+      (known-means k 1 at.text s hk (omega arith) hs hl tape (used area at ++ s) here)
+      (λ _. rw (known_start k 1 at.text s hk (omega arith) hs hl, known_len k 1 at.text s hk (omega arith) hs hl))
+      (λ m h _ _. rw (known_start k 1 at.text s hk (omega arith) hs hl) h)
 
 -- more text for the last token
 module _ (tape area : Text) (tokens : List ℕ) (at : Size) (n : ℕ) (s : Text) (r : Room area tokens at (length s) 0) (below : n < at.tokens)
@@ -70,30 +72,44 @@ module _ (tape area : Text) (tokens : List ℕ) (at : Size) (n : ℕ) (s : Text)
   abbrev w : ℕ
   w = get_or tokens n 0
 
-  pub lengthened : {area' : Text} {v : ℕ} → area' ≡ paste area at.text s (length s) → v ≡ word (kind_of w) 1 (start_of w) (len_of w + length s)
+  abbrev front : Text
+  front = drop (start_of w) (used area at)
+
+  ul : length (used area at) ≡ at.text
+  ul = length-take-le at.text area (omega (arith, r.text_fits))
+
+  whole : take (len_of w) front ≡ front
+  whole = take_all (len_of w) front (rw length-drop (omega (arith, ul)))
+
+  -- the text of the token with the text behind it, as it stands in the area
+  pub joined : {area' : Text} → area' ≡ paste area at.text s (length s) → take (at.text + length s - start_of w) (drop (start_of w) area') ≡ front ++ s
+  joined {area'} e =
+      sym (drop-take (start_of w) (at.text + length s) area') ∙ rw (take_behind area at.text s (omega (arith, r.text_fits)) e) (drop-append-le (start_of w) (used area at) s (omega (arith, ul)))
+
+  pub lengthened : {area' u : Text} {v : ℕ} → area' ≡ paste area at.text s (length s) → u ≡ front ++ s → v ≡ known_word (kind_of w) 1 (start_of w) u
       → Appends tape area tokens at n (token (kind_of w) (text_of tape (used area at) w ++ s)) (length s) area' (set tokens n v)
       (record { lines = at.lines; tokens = n + 1; text = at.text + length s })
   unfolding text_of
-  lengthened e ev =
-      let ul : length (used area at) ≡ at.text = length-take-le at.text area (omega (arith, r.text_fits)) in
-      let hl : len_of w + length s < 65536 = omega (arith, r.short) in
-      let l : ℕ = len_of w + length s in
-      let st = word_start (kind_of w) 1 (start_of w) l (kind_below w) (omega arith) (start_below w) in
-      let ln = word_len (kind_of w) 1 (start_of w) l (kind_below w) (omega arith) (start_below w) hl in
+  lengthened {u = u} e eu ev =
+      let lu : length u ≡ len_of w + length s = ap length eu ∙ rw (length-append, length-drop) (omega (arith, ul)) in
+      let hu : length u < 65536 = omega (arith, r.short) in
+      let at-end = in_area tape (used area at ++ s) one_not_zero in
+      let st = known_start (kind_of w) 1 (start_of w) u (kind_below w) (omega arith) (start_below w) hu in
+      let here : take (length u) (drop (start_of w) (source tape (used area at ++ s) 1)) ≡ u =
+      rw (at-end, drop-append-le (start_of w) (used area at) s (omega (arith, ul)), ← eu) (take-length u) in
       stored tape area tokens at n s r.text_fits (omega (arith, r.words_fit)) e ev
-      (word-points (kind_of w) 1 (start_of w) l (kind_below w) (omega arith) (start_below w) hl tape (used area at ++ s)
-      (rw (in_area tape (used area at ++ s) one_not_zero, length-append) (omega arith)) (omega (arith, r.short)))
-      (word-means (kind_of w) 1 (start_of w) l (kind_below w) (omega arith) (start_below w) hl tape (used area at ++ s)
-      ∙ ap (token (kind_of w)) (rw (
-        pl,
-        in_area tape (used area at ++ s) one_not_zero,
-        in_area tape (used area at) one_not_zero,
-        drop-append-le (start_of w) (used area at) s (omega arith),
-        take_all (len_of w + length s) (drop (start_of w) (used area at) ++ s) (rw (length-append, length-drop) (omega arith)),
-        take_all (len_of w) (drop (start_of w) (used area at)) (rw length-drop (omega arith)),
-      )))
-      (λ _. rw (st, ln) (omega arith))
+      (known-points (kind_of w) 1 (start_of w) u (kind_below w) (omega arith) (start_below w) hu tape (used area at ++ s) here
+      (rw (at-end, length-append) (omega (arith, ul))) (omega (arith, r.short)))
+      (known-means (kind_of w) 1 (start_of w) u (kind_below w) (omega arith) (start_below w) hu tape (used area at ++ s) here
+      ∙ ap (token (kind_of w)) (rw (pl, in_area tape (used area at) one_not_zero, whole) eu))
+      (λ _. rw (st, known_len (kind_of w) 1 (start_of w) u (kind_below w) (omega arith) (start_below w) hu) (omega arith))
       (λ m h f _. rw st (f below pl))
+
+  -- the same, where k tokens are then in use
+  pub lengthened-to : {area' u : Text} {v k : ℕ} → area' ≡ paste area at.text s (length s) → u ≡ front ++ s → v ≡ known_word (kind_of w) 1 (start_of w) u → n + 1 ≡ k
+      → Appends tape area tokens at n (token (kind_of w) (text_of tape (used area at) w ++ s)) (length s) area' (set tokens n v)
+      (record { lines = at.lines; tokens = k; text = at.text + length s })
+  lengthened-to e eu ev ek = rw (← ek) (lengthened e eu ev)
 
 -- a token that stays in the tape
 module _ (tape old area : Text) (tokens : List ℕ) (at : Size) (w : ℕ) (pl : buffer_of w ≡ 0) (below : at.tokens < length tokens) where
@@ -108,7 +124,11 @@ module _ (tape old area : Text) (tokens : List ℕ) (at : Size) (w : ℕ) (pl : 
         text_grows = le_refl _;
         text_most = omega arith;
         text_below = refl;
-        points = rw here (record { inside = rw (in_tape tape (used area at) pl) (rw (in_tape tape old pl) at p.inside); short = p.short; coded = p.coded });
+        points = rw here (record {
+          inside = rw (in_tape tape (used area at) pl) (rw (in_tape tape old pl) at p.inside);
+          short = p.short;
+          coded = coded_same tape old tape (used area at) w (rw (in_tape tape (used area at) pl, in_tape tape old pl)) p.coded;
+        });
         means = rw (here, in_tape tape (used area at) pl, in_tape tape old pl);
         at_end = rw here (λ e. absurd (omega arith));
         fresh = rw here (λ m h f e. absurd (omega arith));
@@ -132,3 +152,30 @@ appends_within e h a = record {
 
 pub room_within : {area : Text} {tokens : List ℕ} {at : Size} {n k m l : ℕ} → m ≤ n → l ≤ k → Room area tokens at n k → Room area tokens at m l
 room_within h i r = record { text_fits = omega (arith, r.text_fits); short = omega (arith, r.short); words_fit = omega (arith, r.words_fit) }
+
+-- ---- a copy
+
+-- a token of the old listing with a copy of its text, s
+module _ (tape old area : Text) (tokens : List ℕ) (at : Size) (w : ℕ) (p : Points tape old w) (r : Room area tokens at (len_of w) 1)
+    {s : Text} (es : s ≡ text_of tape old w) where
+  size : length s ≡ len_of w
+  size = ap length es ∙ text_length p
+
+  short : at.text < 65536
+  short = omega (arith, r.short)
+
+  pub copied_word : {area' : Text} {v : ℕ} → area' ≡ paste area at.text s (length s) → v ≡ moved w at.text
+      → Appends tape area tokens at at.tokens (token_of tape old w) (len_of w) area' (set tokens at.tokens v) (record { lines = at.lines; tokens = at.tokens + 1; text = at.text + length s })
+  copied_word e ev =
+      let ul : length (used area at) ≡ at.text = length-take-le at.text area (omega (arith, r.text_fits)) in
+      let at-end = in_area tape (used area at ++ s) one_not_zero in
+      let here : take (len_of w) (drop at.text (source tape (used area at ++ s) 1)) ≡ text_of tape old w =
+      rw (at-end, drop_at (used area at) s at.text ul, ← size, take-length) es in
+      appends_within refl (omega (arith, size)) (stored tape area tokens at at.tokens s (omega (arith, r.text_fits, size)) (omega (arith, r.words_fit)) e ev
+      (moved-points w at.text short tape old (used area at ++ s) here p (rw (at-end, length-append) (omega (arith, size, ul))) (omega (arith, r.short)))
+      (moved-means w at.text short tape old (used area at ++ s) here)
+      (λ _. rw (moved_start w at.text short, moved-len w at.text short) (omega (arith, size)))
+      (λ m h _ _. rw (moved_start w at.text short) h))
+
+  pub copied_place : {v : ℕ} → v ≡ moved w at.text → buffer_of (get_or (set tokens at.tokens v) at.tokens 0) ≡ 1
+  copied_place {v} ev = ap buffer_of (get_or-set_same tokens at.tokens v 0 (omega (arith, r.words_fit)) ∙ ev) ∙ moved_place w at.text short

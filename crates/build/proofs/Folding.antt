@@ -18,7 +18,9 @@ use Rattle.reference.proofs.Cases.{none-some}
 use Rattle.reference.proofs.Shapes.{folds}
 use Rattle.joining.proofs.Room.{is_sign, signs, keep-room}
 use Rattle.laws.proofs.Scans.{if-true, if-false, and_true, and_false}
-use Rattle.lines.specs.Words.{text_of, token_of, tokens_of}
+use Rattle.lines.specs.Words.{kind_of, text_of, token_of, tokens_of}
+use Rattle.lines.specs.Traits.{delimits_before, delimits_after}
+use Rattle.lines.proofs.shapes.Tests.{is_not}
 use Rattle.build.specs.Folding.{operated, sum_of, number_token, last_of, fold_next, fold_behind}
 
 -- ---- two numbers
@@ -88,6 +90,17 @@ module _ (edition : ℕ) (a b c : Token) where
     folded_is =
         folded-shape (delim_before before) (delim_after rest) (is Number a) (is Number c) ((b.text ≟ bytes " + ") or (b.text ≟ bytes " - "))
         (b.text ≟ bytes " + ") (read_number edition a.text) (read_number edition c.text)
+
+    -- none, whatever is asked
+    none_both : (x : Bool) → none ≡ (when x then number_token none else none)
+    unfolding when◌then◌else◌ let_some◌else◌then◌
+    none_both true = refl
+    none_both false = refl
+
+    pub folded-none : none ≡ sum_of edition a b c → none ≡ folded edition before a b c rest
+    folded-none e =
+        none_both (delim_before before and delim_after rest)
+        ∙ ap (λ (o : Option ℤ). when delim_before before and delim_after rest then number_token o else none) e ∙ sym folded_is
 
     pub folded_open : delim_before before ≡ false → none ≡ folded edition before a b c rest
     folded_open e = sym (folded_is ∙ if-false _ _ (and_false _ e))
@@ -160,21 +173,18 @@ module _ (tape area : Text) (line : List ℕ) where
   unfolding delim_before
   before_none h = rw (sym (take_all 0 line (omega arith)))
 
-  pub before_at : {x : Bool} {s : Text} → 0 < length line → s ≡ text_of tape area (get_or line (length line - 1) 0)
-      → x ≡ (ends_with s (bytes "(") or ends_with s (bytes ", ") or ends_with s (bytes " = "))
+  pub before_at : {x : Bool} → 0 < length line → x ≡ delimits_before (token_of tape area (get_or line (length line - 1) 0))
       → x ≡ delim_before (last_of (tokens_of tape area line))
-  unfolding delim_before
-  before_at h es e = rw (last_at (length line - 1) (omega arith), ← es) e
+  unfolding delim_before delimits_before
+  before_at h e = rw (last_at (length line - 1) (omega arith)) e
 
   pub after_none : length line ≡ 0 → true ≡ delim_after (tokens_of tape area line)
   unfolding delim_after
   after_none h = rw (sym (take_all 0 line (omega arith)))
 
-  pub after_at : {x : Bool} {s : Text} → 0 < length line → s ≡ text_of tape area (get_or line 0 0)
-      → x ≡ (starts_with s (bytes ")") or starts_with s (bytes ",") or starts_with s (bytes ";"))
-      → x ≡ delim_after (tokens_of tape area line)
-  unfolding delim_after
-  after_at h es e = rw (drop-cons line 0 0 h) (rw (← es) e)
+  pub after_at : {x : Bool} → 0 < length line → x ≡ delimits_after (token_of tape area (get_or line 0 0)) → x ≡ delim_after (tokens_of tape area line)
+  unfolding delim_after delimits_after
+  after_at h e = rw (drop-cons line 0 0 h) e
 
   -- three words
   three : 3 ≤ length line → line ≡ get_or line 0 0 ∷ get_or line 1 0 ∷ get_or line 2 0 ∷ drop 3 line
@@ -213,5 +223,10 @@ module _ (tape area : Text) (line : List ℕ) where
             → number_token o ≡ fold_next edition before (tokens_of tape area line)
         next_sum f g = folded-words (ap number_token g ∙ folded-sum edition _ _ _ before _ (sym ex ∙ e) (sym after_is ∙ f))
 
+    pub next_none : 3 ≤ length line → {k : ℕ} → k ≡ kind_of (get_or line 0 0) → (k ≡ Number → ⊥)
+        → number_token none ≡ fold_next edition before (tokens_of tape area line)
+    unfolding let_some◌else◌then◌
+    next_none h ek n = folded-words h refl (folded-none edition _ _ _ before _ (sum_left edition _ _ _ (is_not (token_of tape area (get_or line 0 0)) Number ek n)))
+
 -- the cases of what a call answered
-pub ruleset what_next = (next_few, next_open, next_shut, next_sum)
+pub ruleset what_next = (next_few, next_none, next_open, next_shut, next_sum)

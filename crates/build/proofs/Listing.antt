@@ -14,7 +14,7 @@ use Rattle.reference.specs.Listing.{Line, token}
 use Rattle.lines.specs.Words.{kind_of, buffer_of, start_of, len_of, text_of, token_of, tokens_of, Points}
 use Rattle.lines.specs.Lines.{Reading, part_of, line_read, listing_read, Lined, Listed}
 use Rattle.lines.proofs.words.Each.{map_same}
-use Rattle.lines.proofs.words.Tokens.{place_below, in_tape, in_area}
+use Rattle.lines.proofs.words.Tokens.{coded_same, place_below, in_tape, in_area}
 use Rattle.lines.proofs.words.Lines.{listed_snoc, listed-grows, listing-grows}
 use Rattle.lines.specs.declared.texts.Size.{Size}
 use Rattle.build.specs.State.{used}
@@ -90,7 +90,7 @@ module _ {tape area : Text} {tokens : List ℕ} {at : Size} {line : Reading → 
             (λ e. rw (in_tape tape (used area'' at') e) (rw (in_tape tape (used area' at') e) at p.inside))
             (λ e. rw (in_area tape (used area'' at') e, used-long) (omega (arith, p.inside, ap length (in_area tape (used area' at') e), length-take at'.text area')));
         short = p.short;
-        coded = p.coded;
+        coded = coded_same tape (used area' at') tape (used area'' at') w (sym same_text) p.coded;
       }
 
     same_part : part_of (used_words tokens'' at') v ≡ part_of (used_words tokens' at') v

@@ -1,14 +1,15 @@
 // Appending to a set: a word, a text, more text for the last token, a token of the old listing as it is.
-ghost use Rattle.std.specs.Prelude.{◌≡◌, ◌++◌, ◌+◌, ◌-◌, ◌<◌, length};
+ghost use Rattle.std.specs.Prelude.{◌≡◌, ◌++◌, ◌+◌, ◌-◌, ◌≤◌, ◌<◌, length, take, drop};
 ghost use Rattle.reference.specs.Text.{Text};
 ghost use Rattle.reference.specs.Listing.{token};
-ghost use Rattle.lines.specs.Words.{kind_of, buffer_of, start_of, len_of, text_of};
+ghost use Rattle.lines.specs.Words.{kind_of, buffer_of, start_of, len_of, known_word, text_of};
 ghost use Rattle.lines.specs.Words as words;
 ghost use Rattle.lines.specs.Texts.{Points, token_of};
 ghost use Rattle.build.specs.Builders.{SameLent, Room, Appends, word_at, last_word, used};
 
 use crate::builder::Builder;
 use lines::texts::Texts;
+use lines::traits::area_word;
 use lines::words;
 
 impl Builder<'_> {
@@ -35,9 +36,34 @@ impl Builder<'_> {
         let at = self.size.text;
         let end = at + s.len();
         self.area[at..end].copy_from_slice(s);
-        self.tokens[self.size.tokens] = words::token_word(kind, words::IN_AREA, at, s.len());
+        self.tokens[self.size.tokens] = area_word(kind, at, s);
         self.size.tokens += 1;
         self.size.text = end;
+    }
+
+    // Appends a token of the old listing with a copy of its text, and with what its word knows of it.
+    pub(crate) fn add_copy(&mut self, texts: &Texts<'_>, w: u64)
+        requires { Points texts.now w × Room self.old (len_of w) 1 }
+        ensures appends { Appends texts.now.tape.now self.old self.old.size.tokens (token_of texts.now w) (len_of w) self.new }
+        ensures in_area { buffer_of (word_at self.new self.old.size.tokens) ≡ 1 }
+        ensures lent { SameLent self.old self.new }
+    {
+        // Kept: put by hand, as in `add_text`.
+        let s = words::text(texts, w);
+        let at = self.size.text;
+        let end = at + s.len();
+        self.area[at..end].copy_from_slice(s);
+        self.tokens[self.size.tokens] = words::moved(w, at);
+        self.size.tokens += 1;
+        self.size.text = end;
+    }
+
+    // The word of a token of this kind with the text between two places of the area.
+    fn word_between(&self, kind: u64, from: usize, end: usize) -> u64
+        requires { (kind < 8) × (from ≤ end) × (end < 65536) × (end ≤ length self.now.area.now) }
+        ensures { result ≡ known_word kind 1 from (take (end - from) (drop from self.now.area.now)) }
+    {
+        area_word(kind, from, &self.area[from..end])
     }
 
     // Appends a text to that of the last token, which ends where the text in use ends.
@@ -55,12 +81,8 @@ impl Builder<'_> {
         let w = self.tokens[n];
         let end = at + s.len();
         self.area[at..end].copy_from_slice(s);
-        self.tokens[n] = words::token_word(
-            words::kind(w),
-            words::IN_AREA,
-            words::start(w),
-            words::len(w) + s.len(),
-        );
+        let longer = self.word_between(words::kind(w), words::start(w), end);
+        self.tokens[n] = longer;
         self.size.text = end;
     }
 
@@ -73,7 +95,7 @@ impl Builder<'_> {
         if words::buffer(w) == words::IN_TAPE {
             self.add_word(w);
         } else {
-            self.add_text(words::kind(w), words::text(texts, w));
+            self.add_copy(texts, w);
         }
     }
 }

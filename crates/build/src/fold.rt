@@ -6,8 +6,6 @@
 // into it at each number that is read.
 ghost use Rattle.std.specs.Prelude.{◌≡◌, ◌<◌, length};
 ghost use Rattle.reference.specs.Options.{option_of};
-ghost use Rattle.reference.specs.Control.{◌or◌};
-ghost use Rattle.reference.specs.Text.{bytes, ◌≟◌};
 ghost use Rattle.reference.specs.Numbers.{delim_before, delim_after};
 ghost use Rattle.build.specs.Folding.{sum_of, number_token, last_of, fold_next, Foldable, Stepped, Folded, signs_room};
 ghost use Rattle.build.specs.Builders.{SameLent, line_now, Room, Built, FoldedLast};
@@ -16,17 +14,10 @@ ghost use Rattle.lines.specs.Texts.{Holds, Points, token_of, tokens_of};
 use crate::builder::Builder;
 use ground::kinds;
 use lines::texts::Texts;
+use lines::traits::{self, has};
 use lines::words;
 use numbers::{put_number, read_number, wrapping_add, wrapping_sub};
-use text::{Cursor, same};
-
-// Whether a token between two numbers is an operator that folds.
-#[tactic(auto, using(laws::proofs::Std::tests_of_std))]
-fn is_sign(s: &[u8]) -> bool
-    ensures { result ≡ ((s.now ≟ bytes " + ") or (s.now ≟ bytes " - ")) }
-{
-    same(s, b" + ") || same(s, b" - ")
-}
+use text::Cursor;
 
 // The sum or the difference of two Numbers around an operator token, read by an edition.
 fn sum_of(texts: &Texts<'_>, left: u64, operator: u64, right: u64, edition: u8) -> Option<i64>
@@ -37,13 +28,12 @@ fn sum_of(texts: &Texts<'_>, left: u64, operator: u64, right: u64, edition: u8) 
     if words::kind(left) != kinds::NUMBER || words::kind(right) != kinds::NUMBER {
         return None;
     }
-    let sign = words::text(texts, operator);
-    if !is_sign(sign) {
+    if !has(texts, operator, traits::SIGN) {
         return None;
     }
     let x = read_number(edition, words::text(texts, left))?;
     let y = read_number(edition, words::text(texts, right))?;
-    Some(if same(sign, b" + ") {
+    Some(if has(texts, operator, traits::PLUS) {
         wrapping_add(x, y)
     } else {
         wrapping_sub(x, y)
@@ -57,7 +47,7 @@ fn delimited_before(texts: &Texts<'_>, before: &[u64]) -> bool
     ensures { result ≡ delim_before (last_of (tokens_of texts.now before.now)) }
 {
     match before.last() {
-        Some(w) => text::delimits_before(words::text(texts, *w)),
+        Some(w) => has(texts, *w, traits::DELIMITS_BEFORE),
         None => true,
     }
 }
@@ -69,7 +59,7 @@ fn delimited_after(texts: &Texts<'_>, after: &[u64]) -> bool
     ensures { result ≡ delim_after (tokens_of texts.now after.now) }
 {
     match after.first() {
-        Some(w) => text::delimits_after(words::text(texts, *w)),
+        Some(w) => has(texts, *w, traits::DELIMITS_AFTER),
         None => true,
     }
 }
@@ -84,6 +74,9 @@ fn fold_value(texts: &Texts<'_>, before: &[u64], rest: &[u64], edition: u8) -> O
     let [left, operator, right, after @ ..] = rest else {
         return None;
     };
+    if words::kind(*left) != kinds::NUMBER {
+        return None;
+    }
     if !delimited_before(texts, before) || !delimited_after(texts, after) {
         return None;
     }

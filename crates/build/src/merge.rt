@@ -7,6 +7,7 @@ ghost use Rattle.reference.specs.Text.{Text};
 ghost use Rattle.reference.specs.Listing.{token};
 ghost use Rattle.reference.specs.Claim.{text_in};
 ghost use Rattle.reference.specs.Numbers as numbers;
+ghost use Rattle.lines.specs.Words.{kind_of};
 ghost use Rattle.lines.specs.Texts.{token_of, tokens_of, Points, Holds};
 ghost use Rattle.lines.specs.Shapes.{expr_words, Expression};
 ghost use Rattle.build.specs.State as state;
@@ -62,15 +63,28 @@ impl Builder<'_> {
         }
     }
 
+    // Appends a Punct or a Text of the old listing.
+    fn push_joined(&mut self, texts: &Texts<'_>, w: u64, from: usize)
+        requires { (joinable (kind_of w) ≡ true) × Points texts.now w
+            × Ready texts.now.tape.now self.old from (token_of texts.now w ∷ []) }
+        ensures pushed { Pushed texts.now.tape.now self.old from (token_of texts.now w ∷ []) self.new }
+        ensures lent { SameLent self.old self.new }
+    {
+        if self.extends(words::kind(w), from) {
+            self.extend_last(words::text(texts, w));
+        } else {
+            self.add_copy(texts, w);
+        }
+    }
+
     // Appends a token of the old listing.
     fn push(&mut self, texts: &Texts<'_>, w: u64, from: usize)
         requires { Points texts.now w × Ready texts.now.tape.now self.old from (token_of texts.now w ∷ []) }
         ensures pushed { Pushed texts.now.tape.now self.old from (token_of texts.now w ∷ []) self.new }
         ensures lent { SameLent self.old self.new }
     {
-        let kind = words::kind(w);
-        if is_joined(kind) {
-            self.push_text(kind, words::text(texts, w), from);
+        if is_joined(words::kind(w)) {
+            self.push_joined(texts, w, from);
         } else {
             self.keep(texts, w);
         }

@@ -33,6 +33,9 @@ use Rattle.cautions.proofs.Unwarned.{unwarned}
 use Rattle.clean.specs.Asking.{before_the_tape}
 use Rattle.cautioned.specs.Replies.{OUTPUT, cautions_reply, RefusedAlike, Leaves, set_at, Tells}
 use Rattle.cautioned.specs.Telling.{Cautionable, Finishes}
+use Rattle.clean.specs.declared.tabled.Tables.{Tables}
+use Rattle.clean.specs.Tabled.{Tabled}
+use Rattle.tape.specs.declared.questions.Totals.{Totals}
 use Rattle.cautioned.proofs.Bytes.{read_set}
 use Rattle.cautioned.proofs.Alike.{refused-alike}
 
@@ -122,11 +125,11 @@ module _ (rules : Rules) (tape work_a work_b out : List ℕ) where
     pub refused_on_tape : {n p : ℕ} → read tape ≡ Refused n p → Promise work_a work_b out (Refused n p)
     refused_on_tape is = refused (answer_is ∙ let_refused _ is)
 
-    pub cautionable : AcceptedTape tape → Cautionable tape work_a work_b out
-    cautionable t =
+    pub cautionable : {own : Tables} {t : Totals} → Tabled tape own t → Cautionable tape own t work_a work_b out
+    cautionable l =
         let room = both open_door.1.1.0 in
         record {
-          accepted = t;
+          loaded = l;
           room_a = leb-true _ _ room.0;
           room_b = leb-true _ _ (both room.1).0;
           room = leb-true _ _ (both room.1).1;

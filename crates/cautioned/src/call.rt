@@ -6,9 +6,9 @@ ghost use Rattle.ground.specs.Rules.{rules_of};
 ghost use Rattle.answers.specs.Answers.{answer_of, measured};
 ghost use Rattle.cautioned.specs.Replies.{cautions_reply, RefusedAlike, Leaves, Tells};
 
-use crate::telling::finish;
+use crate::telling::{finish, loaded};
 use answers::{Answer, Reason};
-use clean::{asked, outside_profile};
+use clean::{Tables, asked, outside_profile};
 use ground::rules::Rules;
 
 // What the output has at least: two bytes for each of 256 lines.
@@ -35,9 +35,10 @@ pub fn cautions(
     asked(rules, work_a.len(), work_b.len(), out.len(), OUTPUT_BYTES).map_err(|reason| reason.at(
         0,
     ))?;
-    tape::check::<false>(tape)?;
-    match outside_profile(rules, tape) {
+    let mut own = Tables::EMPTY;
+    let loaded = loaded(tape, &mut own)?;
+    match outside_profile(rules, tape, &own, loaded) {
         Some(line) => Err(Reason::OutsideProfile.at(line)),
-        None => Ok(finish(rules, tape, work_a, work_b, out)),
+        None => Ok(finish(rules, tape, &mut own, loaded, work_a, work_b, out)),
     }
 }

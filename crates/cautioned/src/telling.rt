@@ -1,18 +1,23 @@
-// The cleaning of a tape that passed all questions, with the sets of its lines, and their bytes.
+// The cleaning of a tape that passed all questions and was loaded, with the sets of its lines, and their bytes.
 ghost use Rattle.std.specs.Prelude.{◌≡◌, ◌≤◌, ◌*◌, length};
 ghost use Rattle.reference.specs.Listing.{Listing};
-ghost use Rattle.reference.specs.Questions.{Passed, read};
+ghost use Rattle.reference.specs.Questions.{let_passed◌then◌, Passed, read};
 ghost use Rattle.ground.specs.Rules.{rules_of};
 ghost use Rattle.text.specs.Cursor.{Fits, Puts, Written};
 ghost use Rattle.cautions.specs.Cautions.{finished_cautions, caution_bytes};
+ghost use Rattle.clean.specs.Tabled.{TabledIf};
+ghost use Rattle.tape.specs.Questions.{checked, sizes_in};
 ghost use Rattle.cautioned.specs.Telling.{Cautionable, Tellable, Finishes};
 
+use answers::Refusal;
 use clean::{Tables, optimized};
 use flow::NO_FORM;
 use ground::rules::Rules;
 use join::Workspace;
 use lines::texts::Size;
 use raising::Raising;
+use tables::records::BLANK;
+use tape::questions::Totals;
 use text::Cursor;
 
 // Puts each set in two bytes, the low byte first.
@@ -35,14 +40,30 @@ fn write_sets(sets: &[u16], out: &mut [u8]) -> usize
     out.at
 }
 
-// Cleans a tape that passed all questions, and writes the sets of its finished lines. The areas are only worked in.
-fn tell(rules: Rules, tape: &[u8], area: &mut [u8], area2: &mut [u8], out: &mut [u8]) -> usize
-    requires { Tellable tape.now area.old area2.old out.old }
+// Asks the questions of a tape and fills the tables with its listing. The records that the lines go through stand in this frame: no tape is
+// written, so they are used no more.
+pub fn loaded(tape: &[u8], own: &mut Tables) -> Result<Totals, Refusal>
+    ensures asked { checked result ≡ (let_passed (read tape.now) then λ lines. Passed (sizes_in lines)) }
+    ensures loaded { TabledIf tape.now own.new result }
+{
+    let mut records = [BLANK; 256];
+    own.load(tape, &mut records)
+}
+
+// Cleans the listing in the tables, and writes the sets of its finished lines. The areas are only worked in.
+fn tell(
+    rules: Rules,
+    tape: &[u8],
+    own: &mut Tables,
+    loaded: Totals,
+    area: &mut [u8],
+    area2: &mut [u8],
+    out: &mut [u8],
+) -> usize
+    requires { Tellable tape.now own.old loaded area.old area2.old out.old }
     ensures { (input : Listing) → read tape.now ≡ Passed input
         → Written out.old 0 (caution_bytes (finished_cautions (rules_of rules) input)) out.new result }
 {
-    let mut own = Tables::<2048>::EMPTY;
-    let loaded = own.load(tape);
     let size = Size {
         lines: loaded.lines,
         tokens: loaded.tokens,
@@ -80,11 +101,13 @@ const WORK_BYTES: usize = 49152;
 pub fn finish(
     rules: Rules,
     tape: &[u8],
+    own: &mut Tables,
+    loaded: Totals,
     work_a: &mut [u8],
     work_b: &mut [u8],
     out: &mut [u8],
 ) -> u64
-    requires { Cautionable tape.now work_a.old work_b.old out.old }
+    requires { Cautionable tape.now own.old loaded work_a.old work_b.old out.old }
     ensures { (input : Listing) → read tape.now ≡ Passed input
         → Finishes (caution_bytes (finished_cautions (rules_of rules) input)) work_a.old work_b.old out.old
         work_a.new work_b.new out.new result }
@@ -92,6 +115,8 @@ pub fn finish(
     let n = tell(
         rules,
         tape,
+        own,
+        loaded,
         &mut work_a[..WORK_BYTES],
         &mut work_b[..WORK_BYTES],
         out,

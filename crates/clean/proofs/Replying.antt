@@ -25,6 +25,8 @@ use Rattle.clean.specs.Asking.{before_the_tape}
 use Rattle.clean.specs.Replies.{finished_report, report_of, Summary, summary_of, answer_of, summary, Leaves, Cleans, cleaned, outside}
 use Rattle.clean.specs.Cleaning.{Cleanable, Finishes}
 use Rattle.clean.specs.declared.cleaning.Finished.{Finished}
+use Rattle.clean.specs.declared.tabled.Tables.{Tables}
+use Rattle.clean.specs.Tabled.{Tabled}
 use Rattle.answers.specs.declared.Reason.{Reason}
 use Rattle.answers.specs.declared.Reason.TheVariants as reason
 use Rattle.answers.specs.declared.Refusal.{Refusal}
@@ -123,12 +125,12 @@ module _ (rules : Rules) (tape work_a work_b out : List ℕ) where
           refused (record { reason = reason.OutsideProfile; place = n }) (answer_is ∙ let_is _ a.reads ∙ asked r a.listing (o a.listing a.reads) ∙ rw e refl)
 
       -- none does
-      pub cleanable : AcceptedTape tape → Cleanable tape work_a work_b out
+      pub cleanable : {own : Tables} {t : Totals} → Tabled tape own t → Cleanable tape own t work_a work_b out
       unfolding has_room_by
-      cleanable a =
+      cleanable l =
           let room = both open_door.1.1.0 in
           record {
-            accepted = a;
+            loaded = l;
             room_a = leb-true _ _ room.0;
             room_b = leb-true _ _ (both room.1).0;
             room = leb-true _ _ (both room.1).1;
@@ -152,16 +154,16 @@ module _ (rules : Rules) (tape work_a work_b out : List ℕ) where
           fits : (let_some (option_of r) else cleaned rules tape a.listing then λ n. Refused 14 n) ≡ cleaned rules tape a.listing
           fits = unfold let_some◌else◌then◌ in rw n refl
 
--- ---- the same, from the answers of `check` and `outside_profile`
+-- ---- the same, from the answers of `load` and `outside_profile`
 
 module _ (tape : List ℕ) (k : Result Totals Refusal) (ek : checked k ≡ (let_passed (read tape) then λ lines. Passed (sizes_in lines))) where
-  pub accepted-now : (t : Totals) → k ≡ Ok t → AcceptedTape tape
+  accepted-now : (t : Totals) → k ≡ Ok t → AcceptedTape tape
   accepted-now t e = accepted_by tape (sym (ap checked e) ∙ ek)
 
   module _ (t : Totals) (e : k ≡ Ok t) (rules : Rules) (work_a work_b out : List ℕ) {A : Type 0} {d : Result A Reason}
       (en : refusing d ≡ first_no (before_the_tape rules (length work_a) (length work_b) (length out) OUTPUT)) {a : A} (z : d ≡ Ok a) where
-    pub cleanable_now : Cleanable tape work_a work_b out
-    cleanable_now = cleanable rules tape work_a work_b out en z (accepted-now t e)
+    pub cleanable_now : {own : Tables} → Tabled tape own t → Cleanable tape own t work_a work_b out
+    cleanable_now = cleanable rules tape work_a work_b out en z
 
     module _ (r : std.Option ℕ) (o : (input : Listing) → read tape ≡ Passed input → option_of r ≡ outside rules input) where
       pub refused_now : (line : ℕ) → r ≡ Some line → Promise rules tape work_a work_b out work_a work_b out (Err (record { reason = reason.OutsideProfile; place = line }))

@@ -6,13 +6,15 @@ ghost use Rattle.reference.specs.Questions.{Passed, read};
 ghost use Rattle.reference.specs.Straight.{breaks};
 ghost use Rattle.ground.specs.Rules.{rules_of};
 ghost use Rattle.answers.specs.Refusals.{refusing};
-ghost use Rattle.tape.specs.Questions.{AcceptedTape, first_no};
+ghost use Rattle.tape.specs.Questions.{first_no};
 ghost use Rattle.clean.specs.Asking.{before_the_tape};
 ghost use Rattle.clean.specs.Replies.{outside};
+ghost use Rattle.tables.specs.Tables.{Loaded};
 
 use crate::tabled::Tables;
 use answers::Reason;
 use ground::rules::Rules;
+use tape::questions::Totals;
 
 // The question that refuses the settings, or the lengths of what is lent: the output is to have the least length at least.
 pub fn asked(
@@ -36,13 +38,11 @@ pub fn asked(
     Ok(())
 }
 
-// The first line that breaks the profile. The tables are this function's own, so a call without the profile has no part in them.
-fn broken(tape: &[u8]) -> Option<usize>
-    requires { AcceptedTape tape.now }
+// The first line that breaks the profile, of a tape that was loaded.
+fn broken(tape: &[u8], own: &Tables, loaded: Totals) -> Option<usize>
+    requires { Loaded tape.now own.now.tokens own.now.lines own.now.addresses loaded }
     ensures { (input : Listing) → read tape.now ≡ Passed input → option_of result ≡ breaks input }
 {
-    let mut own = Tables::<1024>::EMPTY;
-    let loaded = own.load(tape);
     formula::breaks(
         tape,
         &own.tokens[..loaded.tokens],
@@ -50,11 +50,15 @@ fn broken(tape: &[u8]) -> Option<usize>
     )
 }
 
-// The first line that breaks the profile, where the profile is asked for.
+// The same, where the profile is asked for.
 #[tactic(auto, using(laws::proofs::Std::tests_of_std))]
-pub fn outside_profile(rules: Rules, tape: &[u8]) -> Option<usize>
-    requires { AcceptedTape tape.now }
+pub fn outside_profile(rules: Rules, tape: &[u8], own: &Tables, loaded: Totals) -> Option<usize>
+    requires { Loaded tape.now own.now.tokens own.now.lines own.now.addresses loaded }
     ensures { (input : Listing) → read tape.now ≡ Passed input → option_of result ≡ outside (rules_of rules) input }
 {
-    if rules.profile { broken(tape) } else { None }
+    if rules.profile {
+        broken(tape, own, loaded)
+    } else {
+        None
+    }
 }

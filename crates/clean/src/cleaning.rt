@@ -18,6 +18,8 @@ use join::Workspace;
 use lines::texts::{Listing, Size, Texts};
 use raising::Raising;
 use rounds::{Outcome, Tally, optimize};
+use tables::records::LineRecord;
+use tape::questions::Totals;
 
 // What a cleaning did: the output's length, what is told of the rounds, the lines removed and the results cut.
 #[derive(Clone, Copy)]
@@ -59,14 +61,21 @@ pub fn optimized(
     )
 }
 
-// Cleans a tape that passed all questions into the output. The areas are only worked in, and no cautions are kept.
-fn written(rules: Rules, tape: &[u8], area: &mut [u8], area2: &mut [u8], out: &mut [u8]) -> Finished
-    requires { Writable tape.now area.old area2.old out.old }
+// Cleans a tape that passed all questions and was loaded, into the output. The areas are only worked in, and no cautions are kept.
+fn written(
+    rules: Rules,
+    tape: &[u8],
+    own: &mut Tables,
+    records: &mut [LineRecord; 256],
+    loaded: Totals,
+    area: &mut [u8],
+    area2: &mut [u8],
+    out: &mut [u8],
+) -> Finished
+    requires { Writable tape.now own.old loaded area.old area2.old out.old }
     ensures { (input : reference.Listing) → read tape.now ≡ Passed input
         → ReplyWritten (cleaned (rules_of rules) tape.now input) out.old out.new result }
 {
-    let mut own = Tables::<2048>::EMPTY;
-    let loaded = own.load(tape);
     let size = Size {
         lines: loaded.lines,
         tokens: loaded.tokens,
@@ -102,7 +111,7 @@ fn written(rules: Rules, tape: &[u8], area: &mut [u8], area2: &mut [u8], out: &m
         tokens: &own.tokens[..used],
         lines: &own.lines[..n],
     };
-    let length = tables::write(&listing, &own.addresses, &own.marks, out);
+    let length = tables::write(&listing, &own.addresses, &own.marks, records, out);
     Finished {
         length,
         tally: r.tally,
@@ -114,21 +123,27 @@ fn written(rules: Rules, tape: &[u8], area: &mut [u8], area2: &mut [u8], out: &m
 // How many bytes of each work area are used, and are zero afterwards.
 const WORK_BYTES: usize = 49152;
 
-// Cleans a tape that passed all questions, and wipes both work areas.
+// Cleans a tape that passed all questions and was loaded, and wipes both work areas.
 pub fn finish(
     rules: Rules,
     tape: &[u8],
+    own: &mut Tables,
+    records: &mut [LineRecord; 256],
+    loaded: Totals,
     work_a: &mut [u8],
     work_b: &mut [u8],
     out: &mut [u8],
 ) -> Finished
-    requires { Cleanable tape.now work_a.old work_b.old out.old }
+    requires { Cleanable tape.now own.old loaded work_a.old work_b.old out.old }
     ensures { (input : reference.Listing) → read tape.now ≡ Passed input → Finishes (cleaned (rules_of rules) tape.now input)
         work_a.old work_b.old out.old work_a.new work_b.new out.new result }
 {
     let r = written(
         rules,
         tape,
+        own,
+        records,
+        loaded,
         &mut work_a[..WORK_BYTES],
         &mut work_b[..WORK_BYTES],
         out,

@@ -6,8 +6,10 @@ ghost use Rattle.clean.specs.Replies.{report_of, answer_of, summary, Cleans};
 
 use crate::asking::{asked, outside_profile};
 use crate::cleaning::{Finished, finish};
+use crate::tabled::Tables;
 use answers::{Reason, Refusal};
 use ground::rules::Rules;
+use tables::records::BLANK;
 
 // How many bytes the output is to have at least: no new tape is longer.
 pub const OUTPUT: usize = 59137;
@@ -27,9 +29,21 @@ pub fn clean(
         (length work_a.old) (length work_b.old) (length out.old)) }
 {
     asked(rules, work_a.len(), work_b.len(), out.len(), OUTPUT).map_err(|reason| reason.at(0))?;
-    tape::check::<false>(tape)?;
-    match outside_profile(rules, tape) {
+    // The records are lent to the loading, and to the writing.
+    let mut own = Tables::EMPTY;
+    let mut records = [BLANK; 256];
+    let loaded = own.load(tape, &mut records)?;
+    match outside_profile(rules, tape, &own, loaded) {
         Some(line) => Err(Reason::OutsideProfile.at(line)),
-        None => Ok(finish(rules, tape, work_a, work_b, out)),
+        None => Ok(finish(
+            rules,
+            tape,
+            &mut own,
+            &mut records,
+            loaded,
+            work_a,
+            work_b,
+            out,
+        )),
     }
 }

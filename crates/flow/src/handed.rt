@@ -4,6 +4,7 @@ ghost use Rattle.std.specs.Prelude.{◌≡◌, ◌<◌, suc, length};
 ghost use Rattle.reference.specs.Control.{not, ◌and◌, ◌or◌};
 ghost use Rattle.reference.specs.Lists.{any};
 ghost use Rattle.reference.specs.Listing.{◌at◌};
+ghost use Rattle.reference.specs.Shapes.{is_kw};
 ghost use Rattle.reference.specs.Text.{bytes, has, starts_with};
 ghost use Rattle.cautions.specs.Forms.{reached_from};
 ghost use Rattle.cautions.specs.Joins.{first_arguments, is_void, for_caller, is_handed};
@@ -122,6 +123,15 @@ fn to_call(g: &FormedListing<'_>, f: Fam, rules: Rules, seen: &[bool]) -> bool
 
 // ---- to the caller
 
+// Whether a token is the Keyword `void`.
+#[tactic(auto, using(lines::proofs::shapes::Tests::token_tests), unfolding(reference::specs::Shapes::is_kw))]
+fn is_void_word(texts: &Texts<'_>, w: u64) -> bool
+    requires { Points texts.now w }
+    ensures { result ≡ is_kw (bytes "void") (token_of texts.now w) }
+{
+    words::kind(w) == kinds::KEYWORD && text::same(words::text(texts, w), b"void")
+}
+
 // Whether the head of the listing says that nothing is returned.
 fn is_void(listing: &Listing<'_>) -> bool
     requires { Listed listing.now }
@@ -134,7 +144,7 @@ fn is_void(listing: &Listing<'_>) -> bool
     if head.is_empty() {
         return false;
     }
-    shapes::is_kw(&listing.texts, head[0], b"void")
+    is_void_word(&listing.texts, head[0])
 }
 
 // Whether the family has the result, and there is one.

@@ -15,6 +15,7 @@ ghost use Rattle.lines.specs.Lines.{part_of};
 use crate::blocks;
 use crate::lineforms::{Form, LineForm};
 use lines::texts::Listing;
+use lines::traits::Kw;
 use lines::{shapes, words};
 
 // A listing, and what the table has of its lines.
@@ -66,7 +67,7 @@ fn jump(listing: &Listing<'_>, l: u64) -> Option<usize>
     ensures { option_of result ≡ jump_in (bare_listing listing.now) (tokens_of listing.now.texts (part_of listing.now.tokens.now l)) }
 {
     let line = words::line_of(listing.tokens, l);
-    let g = shapes::kw_at(&listing.texts, line, b"goto")?;
+    let g = shapes::kw_at(&listing.texts, line, Kw::Goto)?;
     let s = shapes::symbol_from(line, g + 1)?;
     label_named(listing, line[s])
 }
@@ -82,7 +83,7 @@ fn gives_back(listing: &Listing<'_>, l: u64) -> bool
         return false;
     }
     let at = if n < 2 { 0 } else { n - 2 };
-    shapes::is_kw(&listing.texts, line[at], b"return")
+    shapes::is_kw(&listing.texts, line[at], Kw::Return)
 }
 
 // ---- by the form

@@ -10,17 +10,25 @@ use Rattle.lines.specs.Words.{token_of, Holds}
 use Rattle.lines.specs.Lines.{part_of, Reading, own, line_read, listing_read}
 use Rattle.lines.proofs.words.Tokens.{text_length}
 use Rattle.tape.specs.declared.questions.Totals.{Totals}
-use Rattle.tables.specs.Tables.{Loaded}
+use Rattle.tables.specs.Tables.{Loaded, LoadedIf}
+use Rattle.formula.specs.Tabled.{TabledIf}
+use Rattle.answers.specs.declared.Refusal.{Refusal}
 use Rattle.tables.proofs.loading.Loaded.{loaded-limits}
 use Rattle.formula.specs.Places.{Readable}
 use Rattle.formula.specs.Profile.{Filled}
 use Rattle.std.specs.Prelude as std
+use Rattle.std.specs.Prelude.{Result, Ok, Err}
 use Rattle.reference.specs.Options.{option_of}
 
 mapped_at : {A B : Type 0} (P : B → Type 0) (f : A → B) (xs : List A) (d : A) → All P (map f xs) → (k : ℕ) → k < length xs → P (f (get_or xs k d))
 mapped_at P f [] d h k l = absurd (omega arith)
 mapped_at P f (x ∷ xs) d h zero l = h.0
 mapped_at P f (x ∷ xs) d h (suc k) l = mapped_at P f xs d h.1 k (omega arith)
+
+-- the tables of a tape, without the marks of its lines
+pub tabled : (tape tokens lines addresses lows highs : List ℕ) (r : Result Totals Refusal) → LoadedIf tape tokens lines addresses lows highs r → TabledIf tape tokens lines r
+tabled tape tokens lines addresses lows highs (Ok t) l = (addresses, l.0)
+tabled tape tokens lines addresses lows highs (Err r) l = tt
 
 module _ (tape tokens lines addresses : List ℕ) (t : Totals) (l : Loaded tape tokens lines addresses t) where
   pub filled : Filled tape (take t.tokens tokens) (take t.lines lines)

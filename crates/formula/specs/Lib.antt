@@ -3,6 +3,7 @@
 pub mod Places
 pub mod Terms
 pub mod Values
+pub mod Tabled
 pub mod Profile
 pub mod Line
 pub mod Breaches

@@ -17,6 +17,7 @@ use crate::profile::{is_read, puncts_apart};
 use crate::terms::{is_tidy, is_wide};
 use ground::kinds;
 use lines::texts::Texts;
+use lines::traits::Kw;
 use lines::{shapes, words};
 use numbers::parse_c_number;
 
@@ -239,7 +240,7 @@ fn begins(texts: &Texts<'_>, first: u64, last: bool) -> bool
     ensures { result ≡ begins last (token_of texts.now first) }
 {
     if last {
-        shapes::is_kw(texts, first, b"return")
+        shapes::is_kw(texts, first, Kw::Return)
     } else {
         is_wide(texts, first)
     }

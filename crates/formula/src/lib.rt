@@ -6,7 +6,9 @@ pub mod evaluators;
 pub mod line;
 pub mod places;
 pub mod profile;
+pub mod tabled;
 pub mod terms;
 
 pub use breaches::{Breach, breach_at};
 pub use profile::breaks;
+pub use tabled::load;

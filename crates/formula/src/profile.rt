@@ -17,6 +17,7 @@ use crate::line::Line;
 use crate::terms::is_wide;
 use ground::kinds;
 use lines::texts::Texts;
+use lines::traits::Kw;
 use lines::{shapes, words};
 
 // Whether tokens are `before`, an expression and `;`. An empty table of values serves.
@@ -62,7 +63,7 @@ fn returns_value(line: &Line<'_>) -> bool
     match line.words {
         [] => false,
         [first, rest @ ..] => {
-            shapes::is_kw(&line.texts, *first, b"return")
+            shapes::is_kw(&line.texts, *first, Kw::Return)
                 && is_read(&line.texts, rest, b" ")
                 && puncts_apart(rest)
         }

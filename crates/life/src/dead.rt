@@ -14,6 +14,7 @@ use crate::labels::LabelledListing;
 use crate::liveness::{Followed, Liveness, liveness_at};
 use linefacts::{fact_number, is_calling, is_transparent};
 use lines::texts::Listing;
+use lines::traits::Kw;
 use lines::{fams, shapes, words};
 
 // Whether a line, at most `base_indent` deep, has the Keyword `return`.
@@ -22,7 +23,11 @@ fn returns_at(listing: &Listing<'_>, l: u64, base_indent: u64) -> bool
     ensures { result ≡ returns_at base_indent (bare_in listing.now.texts listing.now.tokens.now l) }
 {
     words::indent(l) <= base_indent
-        && shapes::has_kw(&listing.texts, words::line_of(listing.tokens, l), b"return")
+        && shapes::has_kw(
+            &listing.texts,
+            words::line_of(listing.tokens, l),
+            Kw::Return,
+        )
 }
 
 // A line that no jump decides.
@@ -52,7 +57,7 @@ fn liveness_after(scope: &LabelledListing<'_>, w: usize, v: Followed) -> Livenes
     if shapes::has_kw(
         &scope.listing.texts,
         words::line_of(scope.listing.tokens, l),
-        b"while",
+        Kw::While,
     ) {
         if while_passes(&scope.listing, w, v) {
             Liveness::Open

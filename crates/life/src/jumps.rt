@@ -15,6 +15,7 @@ use crate::labels::LabelledListing;
 use crate::liveness::{Followed, rerun_kills};
 use crate::touches;
 use lines::texts::Listing;
+use lines::traits::Kw;
 use lines::{shapes, words};
 
 // ---- `while`
@@ -25,7 +26,7 @@ fn is_do(listing: &Listing<'_>, l: u64, indent: u64) -> bool
     ensures { result ≡ is_do indent (bare_in listing.now.texts listing.now.tokens.now l) }
 {
     words::indent(l) == indent
-        && shapes::has_kw(&listing.texts, words::line_of(listing.tokens, l), b"do")
+        && shapes::has_kw(&listing.texts, words::line_of(listing.tokens, l), Kw::Do)
 }
 
 // The last of the lines with this indent and the Keyword `do`.
@@ -104,7 +105,7 @@ fn goto_target(scope: &LabelledListing<'_>, l: u64) -> Option<Option<usize>>
         (labels_of scope.now) }
 {
     let line = words::line_of(scope.listing.tokens, l);
-    let g = shapes::kw_at(&scope.listing.texts, line, b"goto")?;
+    let g = shapes::kw_at(&scope.listing.texts, line, Kw::Goto)?;
     let Some(s) = shapes::symbol_from(line, g + 1) else {
         return Some(None);
     };

@@ -16,6 +16,7 @@ use Rattle.reference.specs.Shapes.{has_brace}
 use Rattle.reference.proofs.Cases.{fails, none-some}
 use Rattle.names.proofs.Texts.{same_true}
 use Rattle.lines.specs.Codes.{Says}
+use Rattle.lines.specs.Traits.{has_text}
 use Rattle.lines.specs.Words.{kind_of, text_of, token_of, Points}
 use Rattle.lines.specs.Facts.{bit, of_number, is_control, concerns}
 use Rattle.lines.proofs.shapes.Tests.{is_it, is_not}
@@ -58,9 +59,9 @@ module _ (t : Token) {x : ℕ} (e : x ≡ t.kind) where
     unfolding is_control ◌or◌
     control_brace h = rw (← is_not t 3 e n, ← ey, h)
 
-    pub control_colon : {s : Text} {z : Bool} → y ≡ false → s ≡ t.text → z ≡ (s ≟ bytes ":") → z ≡ is_control t
+    pub control_colon : {z : Bool} → y ≡ false → z ≡ has_text (bytes ":") t → z ≡ is_control t
     unfolding is_control ◌or◌
-    control_colon f es ez = ez ∙ rw (← is_not t 3 e n, ← ey, f, es)
+    control_colon f ez = ez ∙ rw (← is_not t 3 e n, ← ey, f)
 
 -- ---- a token that is no Register: x is the kind that was read, y whether it is of control flow
 

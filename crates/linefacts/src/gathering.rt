@@ -15,6 +15,7 @@ ghost use Rattle.lines.specs.Texts.{Holds, Lined, Points, token_of, tokens_of};
 use crate::transparent::{CALLING, NO_CALL};
 use ground::kinds;
 use lines::texts::Texts;
+use lines::traits::{self, has};
 use lines::{shapes, words};
 
 // What a line may have, in a number of its own: a bit that is set says what there may be, and `facts_of` turns the first sixteen over.
@@ -31,9 +32,7 @@ fn is_control(texts: &Texts<'_>, w: u64) -> bool
     requires { Points texts.now w }
     ensures { result ≡ is_control (token_of texts.now w) }
 {
-    words::kind(w) == kinds::KEYWORD
-        || shapes::has_brace(texts, w)
-        || text::same(words::text(texts, w), b":")
+    words::kind(w) == kinds::KEYWORD || has(texts, w, traits::BRACE) || has(texts, w, traits::COLON)
 }
 
 // The bit of a Register's family, as its code says; one without a code may be anything.

@@ -1,10 +1,10 @@
 -- What the code's answers on shapes mean, and the right side of an assignment as words. Assumes nothing.
 use Rattle.std.specs.Prelude.{ℕ, ◌+◌, ◌-◌, ◌≤◌, ◌<◌, ◌≡◌, Bool, true, List, [], ◌∷◌, length, get_or, set, take, drop}
 use Rattle.std.proofs.Math.Option.{Option, none, some}
-use Rattle.reference.specs.Control.{◌and◌, when◌then◌else◌, let_some◌else◌then◌}
+use Rattle.reference.specs.Control.{when◌then◌else◌, let_some◌else◌then◌}
 use Rattle.reference.specs.Lists.{position, is_empty}
-use Rattle.reference.specs.Text.{Text, bytes, starts_with}
-use Rattle.reference.specs.Listing.{Token, is, Symbol, Punct}
+use Rattle.reference.specs.Text.{Text}
+use Rattle.reference.specs.Listing.{Token, is, Symbol}
 use Rattle.reference.specs.Shapes.{Assignment, cut_semicolon, assignment_of}
 use Rattle.lines.specs.Words.{start_of, len_of, without_first, without_last, token_of, tokens_of, Holds}
 use Rattle.std.specs.Prelude as std
@@ -13,10 +13,6 @@ use Rattle.lines.specs.declared.shapes.Expr.{Expr}
 -- the place of the first Symbol from the token `from` on
 unfoldable pub symbol_from : List Token → ℕ → Option ℕ
 symbol_from ts from = let_some (position (is Symbol) (drop from ts)) else none then λ k. some (from + k)
-
--- the first of the two tests of `calls_here`
-unfoldable pub is_called : Token → Token → Bool
-is_called t next = is Symbol t and is Punct next and starts_with next.text (bytes "(")
 
 -- ---- the right side of an assignment, as words
 

@@ -5,8 +5,10 @@ use Rattle.reference.specs.Control.{when◌then◌else◌}
 use Rattle.reference.specs.Text.{Text}
 use Rattle.reference.specs.Listing.{Token, token}
 use Rattle.lines.specs.Codes.{Says}
+use Rattle.lines.specs.Traits.{traits}
 
--- kind in 3 bits, buffer in 1 bit, start in 16 bits, length in 16 bits; the bits above are the code of the text, or 0
+-- kind in 3 bits, buffer in 1 bit, start in 16 bits, length in 16 bits; the bits above are 0, or what is known of the text: its code (or 0)
+-- in 6 bits, and its traits
 
 unfoldable pub kind_of : ℕ → ℕ
 kind_of w = w % 8
@@ -20,16 +22,30 @@ start_of w = w / 16 % 65536
 unfoldable pub len_of : ℕ → ℕ
 len_of w = w / 1048576 % 65536
 
-unfoldable pub code_of : ℕ → ℕ
-code_of w = w / 68719476736
+unfoldable pub coding_of : ℕ → ℕ
+coding_of w = w / 68719476736
 
--- the word of these parts, with no code
+unfoldable pub code_of : ℕ → ℕ
+code_of w = coding_of w % 64
+
+unfoldable pub traits_of : ℕ → ℕ
+traits_of w = coding_of w / 64
+
+-- the word of these parts, with nothing known of the text
 unfoldable pub word : ℕ → ℕ → ℕ → ℕ → ℕ
 word kind buffer start len = kind + buffer * 8 + start * 16 + len * 1048576
 
--- the same word with the code c
-unfoldable pub with_code : ℕ → ℕ → ℕ
-with_code w c = w % 68719476736 + c * 68719476736
+-- the same word with the code c and the traits m
+unfoldable pub with_coding : ℕ → ℕ → ℕ → ℕ
+with_coding w c m = w % 68719476736 + (c + m * 64) * 68719476736
+
+-- the word of a token of this kind with the text s, which stands at `start` of a buffer, with its traits
+abbrev pub known_word : ℕ → ℕ → ℕ → Text → ℕ
+known_word kind buffer start s = with_coding (word kind buffer start (length s)) 0 (traits (token kind s))
+
+-- the same token with its text at `start` of the area, and with what is known of it
+unfoldable pub moved : ℕ → ℕ → ℕ
+moved w start = kind_of w + 8 + start * 16 + w / 1048576 * 1048576
 
 -- shorter parts of a word's text: without its first n bytes, its first n bytes, without its last byte
 unfoldable pub without_first : ℕ → ℕ → ℕ
@@ -54,15 +70,20 @@ token_of tape area w = token (kind_of w) (text_of tape area w)
 abbrev pub tokens_of : Text → Text → List ℕ → List Token
 tokens_of tape area ws = map (token_of tape area) ws
 
--- the word has no code, or its text is in the tape and the code is true of it
-unfoldable pub Coded : Text → ℕ → Type 0
-Coded tape w = (code_of w ≡ 0) ⊎ ((buffer_of w ≡ 0) × Says (code_of w) (take (len_of w) (drop (start_of w) tape)))
+-- the code c and the traits m are true of a token of this kind with the text s
+pub record Describes (c m kind : ℕ) (s : Text) : Type 0 where
+  pub code : (c ≡ 0) ⊎ Says c s
+  pub traits : m ≡ traits (token kind s)
 
--- the word's text lies within its source, and below the buffer that a start can name; its code says nothing false
+-- the word says nothing of its text, or what is true of it
+unfoldable pub Coded : Text → Text → ℕ → Type 0
+Coded tape area w = (coding_of w ≡ 0) ⊎ Describes (code_of w) (traits_of w) (kind_of w) (text_of tape area w)
+
+-- the word's text lies within its source, and below the buffer that a start can name; what it says of the text is true
 pub record Points (tape area : Text) (w : ℕ) : Type 0 where
   pub inside : start_of w + len_of w ≤ length (source tape area (buffer_of w))
   pub short : start_of w + len_of w < 65536
-  pub coded : Coded tape w
+  pub coded : Coded tape area w
 
 -- the answer of `code`: the code, which is not 0, and none where it is 0
 pub record CodeIs (w : ℕ) (o : std.Option ℕ) : Type 0 where

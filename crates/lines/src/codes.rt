@@ -1,5 +1,5 @@
-// Codes: the family and the width of a token's text that begins at bit 0, found once and kept in its word. A high byte has none, and is
-// read.
+// Codes: the family and the width of a token's text that begins at bit 0, found once and kept in its word, beside the traits. A high byte
+// has none, and is read.
 ghost use Rattle.std.specs.Prelude.{◌≡◌, ◌+◌, ◌*◌, ◌%◌, Some};
 ghost use Rattle.reference.specs.Text.{◌≟◌};
 ghost use Rattle.reference.specs.Names.{family};
@@ -10,7 +10,7 @@ ghost use Rattle.lines.specs.Words.{Recoded};
 ghost use Rattle.lines.specs.Texts.{Points, text_of};
 
 use crate::texts::Texts;
-use crate::words;
+use crate::{traits, words};
 use ground::kinds;
 use names::Spelled;
 
@@ -112,20 +112,33 @@ fn code_of(s: &[u8]) -> Option<u64>
     }
 }
 
-// The word with the code of its text, where it is a Register in the tape.
-#[tactic(auto, using(crate::proofs::codes::Recoding::recoded_with, crate::proofs::words::Tokens::bounds))]
-pub fn coded(tape: &[u8], w: u64) -> u64
-    ensures { Recoded tape.now w result }
+// The code of a token of this kind; only a Register has one.
+fn code_for(kind: u64, s: &[u8]) -> Option<u64>
+    ensures { Codes s.now result }
 {
-    if words::kind(w) != kinds::REGISTER || words::buffer(w) != words::IN_TAPE {
+    if kind != kinds::REGISTER {
+        return None;
+    }
+    code_of(s)
+}
+
+// The word with what is known of its text, where that is in the tape.
+#[tactic(auto, using(crate::proofs::codes::Recoding::recoding, crate::proofs::codes::Elsewhere::coded_parts, crate::proofs::words::Tokens::bounds))]
+pub fn coded(tape: &[u8], w: u64) -> u64
+    ensures recoded { Recoded tape.now w result }
+    ensures parts { result % 68719476736 ≡ w % 68719476736 }
+{
+    if words::buffer(w) != words::IN_TAPE {
         return w;
     }
     let from = words::start(w);
     let Some(s) = tape.get(from..from + words::len(w)) else {
         return w;
     };
-    let Some(c) = code_of(s) else {
-        return w;
-    };
-    words::with_code(w, c)
+    let kind = words::kind(w);
+    words::with_coding(
+        w,
+        code_for(kind, s).unwrap_or(0),
+        traits::traits_of(kind, s),
+    )
 }

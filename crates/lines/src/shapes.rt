@@ -5,15 +5,17 @@ ghost use Rattle.std.specs.Prelude.{◌≡◌, ◌+◌, ◌≤◌, ◌<◌, leng
 ghost use Rattle.reference.specs.Options.{option_of};
 ghost use Rattle.reference.specs.Lists.{position, is_some};
 ghost use Rattle.reference.specs.Text.{Text};
-ghost use Rattle.reference.specs.Shapes.{label_tokens, is_kw, kw_in, has_brace, braces_in, calls_here, call_in, begins_assignment};
-ghost use Rattle.reference.specs.Shapes.{is_written, is_operator, is_operator_expr};
+ghost use Rattle.reference.specs.Shapes.{label_tokens, is_kw, kw_in, braces_in, calls_here, call_in, begins_assignment};
+ghost use Rattle.reference.specs.Shapes.{is_written, is_operator_expr};
 ghost use Rattle.reference.specs.Join.{lone_number};
 ghost use Rattle.lines.specs.Words as Words;
 ghost use Rattle.lines.specs.Words.{start_of, len_of};
-ghost use Rattle.lines.specs.Shapes.{symbol_from, is_called, opened, expr_words, Opens, Expression, Sides, Assigns};
+ghost use Rattle.lines.specs.Traits.{kw_text};
+ghost use Rattle.lines.specs.Shapes.{symbol_from, opened, expr_words, Opens, Expression, Sides, Assigns};
 ghost use Rattle.lines.specs.Texts.{Holds, Points, token_of, tokens_of};
 
 use crate::texts::Texts;
+use crate::traits::{self, Kw, has};
 use crate::words;
 use ground::kinds;
 
@@ -25,32 +27,32 @@ pub fn is_label(texts: &Texts<'_>, line: &[u64]) -> bool
     let [name, colon] = line else {
         return false;
     };
-    text::same(words::text(texts, *colon), b":") && words::kind(*name) == kinds::SYMBOL
+    has(texts, *colon, traits::COLON) && words::kind(*name) == kinds::SYMBOL
 }
 
 // ---- keywords
 
 // Whether a token is a Keyword with that text.
-#[tactic(auto, using(crate::proofs::shapes::Tests::token_tests), unfolding(reference::specs::Shapes::is_kw))]
-pub fn is_kw(texts: &Texts<'_>, w: u64, kw: &[u8]) -> bool
+#[tactic(auto, using(crate::proofs::traits::Tests::keywords))]
+pub fn is_kw(texts: &Texts<'_>, w: u64, kw: Kw) -> bool
     requires { Points texts.now w }
-    ensures { result ≡ is_kw kw.now (token_of texts.now w) }
+    ensures { result ≡ is_kw (kw_text kw) (token_of texts.now w) }
 {
-    words::kind(w) == kinds::KEYWORD && text::same(words::text(texts, w), kw)
+    has(texts, w, traits::kw_trait(kw))
 }
 
 // The place of the first Keyword with that text.
-pub fn kw_at(texts: &Texts<'_>, line: &[u64], kw: &[u8]) -> Option<usize>
+pub fn kw_at(texts: &Texts<'_>, line: &[u64], kw: Kw) -> Option<usize>
     requires { Holds texts.now line.now }
-    ensures { option_of result ≡ position (is_kw kw.now) (tokens_of texts.now line.now) }
+    ensures { option_of result ≡ position (is_kw (kw_text kw)) (tokens_of texts.now line.now) }
 {
     line.iter().position(|w| is_kw(texts, *w, kw))
 }
 
 // Whether there is a Keyword with that text.
-pub fn has_kw(texts: &Texts<'_>, line: &[u64], kw: &[u8]) -> bool
+pub fn has_kw(texts: &Texts<'_>, line: &[u64], kw: Kw) -> bool
     requires { Holds texts.now line.now }
-    ensures { result ≡ kw_in (tokens_of texts.now line.now) kw.now }
+    ensures { result ≡ kw_in (tokens_of texts.now line.now) (kw_text kw) }
 {
     line.iter().any(|w| is_kw(texts, *w, kw))
 }
@@ -64,39 +66,21 @@ pub fn symbol_from(line: &[u64], from: usize) -> Option<usize>
 
 // ---- braces and calls
 
-#[tactic(auto, using(crate::proofs::shapes::Tests::token_tests), unfolding(reference::specs::Shapes::has_brace))]
-pub fn has_brace(texts: &Texts<'_>, w: u64) -> bool
-    requires { Points texts.now w }
-    ensures { result ≡ has_brace (token_of texts.now w) }
-{
-    words::kind(w) == kinds::PUNCT && text::has_brace(words::text(texts, w))
-}
-
 pub fn opens_or_closes(texts: &Texts<'_>, line: &[u64]) -> bool
     requires { Holds texts.now line.now }
     ensures { result ≡ braces_in (tokens_of texts.now line.now) }
 {
-    line.iter().any(|w| has_brace(texts, *w))
-}
-
-// Whether a token is a Symbol with a bracket after it.
-#[tactic(auto, using(crate::proofs::shapes::Tests::token_tests), unfolding(crate::specs::Shapes::is_called))]
-fn is_called(texts: &Texts<'_>, w: u64, next: u64) -> bool
-    requires { Points texts.now next }
-    ensures { result ≡ is_called (token_of texts.now w) (token_of texts.now next) }
-{
-    words::kind(w) == kinds::SYMBOL
-        && words::kind(next) == kinds::PUNCT
-        && text::starts(words::text(texts, next), b"(")
+    line.iter().any(|w| has(texts, *w, traits::BRACE))
 }
 
 // Whether a token, with the one after it, is a call mark.
+#[tactic(auto, using(crate::proofs::shapes::Tests::token_tests), unfolding(reference::specs::Shapes::calls_here))]
 fn is_call_mark(texts: &Texts<'_>, w: u64, next: u64) -> bool
     requires { Points texts.now w × Points texts.now next }
     ensures { result ≡ calls_here (token_of texts.now w, token_of texts.now next) }
 {
-    is_called(texts, w, next)
-        || words::kind(w) == kinds::KEYWORD && text::starts(words::text(texts, w), b"((void")
+    words::kind(w) == kinds::SYMBOL && has(texts, next, traits::BRACKET)
+        || has(texts, w, traits::CAST)
 }
 
 // The place of the first call mark.
@@ -163,9 +147,7 @@ fn begins_assignment(texts: &Texts<'_>, lhs: u64, eq: u64) -> bool
     requires { Points texts.now eq }
     ensures { result ≡ begins_assignment (token_of texts.now lhs) (token_of texts.now eq) }
 {
-    words::kind(lhs) == kinds::REGISTER
-        && words::kind(eq) == kinds::PUNCT
-        && text::starts(words::text(texts, eq), b" = ")
+    words::kind(lhs) == kinds::REGISTER && has(texts, eq, traits::ASSIGN)
 }
 
 // The right side of a line whose second token begins with ` = `, from the token at `first` on.
@@ -178,7 +160,7 @@ fn right_side(texts: &Texts<'_>, line: &[u64], first: usize) -> Option<Expr>
         return None;
     }
     let last = right_word(line, n - 1);
-    if !text::ends(words::text(texts, last), b";") {
+    if !has(texts, last, traits::SEMICOLON) {
         return None;
     }
     if words::len(last) != 1 {
@@ -230,25 +212,7 @@ pub(crate) fn is_written(texts: &Texts<'_>, line: &[u64], pos: usize) -> bool
     let Some(next) = line.get(pos + 1) else {
         return false;
     };
-    if words::kind(*next) != kinds::PUNCT {
-        return false;
-    }
-    let s = words::text(texts, *next);
-    text::starts(s, b" = ") || text::begins_update(s)
-}
-
-// Whether a token is a Punct with a space at an edge, and no comma between its edge spaces.
-#[tactic(auto, using(crate::proofs::shapes::Tests::operators), unfolding(reference::specs::Shapes::is_operator))]
-fn is_operator(texts: &Texts<'_>, w: u64) -> bool
-    requires { Points texts.now w }
-    ensures { result ≡ is_operator (token_of texts.now w) }
-{
-    if words::kind(w) != kinds::PUNCT {
-        return false;
-    }
-    let s = words::text(texts, w);
-    let t = text::trim(s);
-    t.len() < s.len() && !text::same(t, b",")
+    has(texts, *next, traits::WRITES)
 }
 
 // Whether the right side x of a line has an operator among its tokens, of which there are several.
@@ -256,5 +220,5 @@ pub fn is_operator_expr(texts: &Texts<'_>, line: &[u64], x: Expr) -> bool
     requires { Holds texts.now line.now × Expression line.now x }
     ensures { result ≡ is_operator_expr (tokens_of texts.now (expr_words line.now x)) }
 {
-    1 < x.count && (0..x.count).any(|k| is_operator(texts, expr_word(line, x, k)))
+    1 < x.count && (0..x.count).any(|k| has(texts, expr_word(line, x, k), traits::OPERATOR))
 }

@@ -1,8 +1,8 @@
 // Token words and line words: a token and a line, each in one number, read by / and %.
 //
 // A token word: kind in 3 bits, buffer in 1 bit, start in 16 bits, length in 16 bits, and above them
-// the code of its text, or 0 (codes.rt). Its text is `len` bytes from `start` on, in the tape or,
-// once rewritten, in the area.
+// 0 or what is known of its text: its code in 6 bits (codes.rt), and its traits (traits.rt). Its text is
+// `len` bytes from `start` on, in the tape or, once rewritten, in the area.
 // A line word: first token in 16 bits, count in 11 bits, indent in 6 bits, whether it has an
 // address in 1 bit, and its origin, the number of the input line that it was, in 8 bits; above them
 // its facts (crate linefacts). (The address itself stands in a table, by the line's origin.)
@@ -10,7 +10,7 @@
 // Kept: words that point into buffers. There is no heap, so that tokens and lines stand in arrays of a fixed size; and the area is written
 // while words point into it, which no reference to a part of it would allow.
 ghost use Rattle.std.specs.Prelude.{◌≡◌, ◌+◌, ◌/◌, ◌%◌, ◌≤◌, ◌<◌, eqb, length};
-ghost use Rattle.lines.specs.Words.{kind_of, buffer_of, start_of, len_of, word, with_code, without_first, first_bytes};
+ghost use Rattle.lines.specs.Words.{kind_of, buffer_of, start_of, len_of, traits_of, word, with_coding, moved, without_first, first_bytes};
 ghost use Rattle.lines.specs.Words.{without_last, CodeIs};
 ghost use Rattle.lines.specs.Lines.{first_of, count_of, indent_of, addressed_of, origin_of, facts_of, with_facts, flag, line_word};
 ghost use Rattle.lines.specs.Lines.{with_part, part_of};
@@ -19,9 +19,15 @@ ghost use Rattle.lines.specs.Texts.{Points, text_of};
 use crate::texts::Texts;
 
 // What the lowest bit counts of a token's code, and of a line's facts: they stand above all else in their words, from bit 36 and bit 42 on.
+// Above the code, which is below `CODES`, stand the traits.
 const CODE: u64 = 68719476736;
 
+const CODES: u64 = 64;
+
 const FACTS: u64 = 4398046511104;
+
+// What the lowest bit counts of a token's length, above which all stands that is known of its text.
+const LEN: u64 = 1048576;
 
 // The buffers that hold a text.
 // Kept: the two values of one bit of a word, as the definitions have it. An enum would need a function to the bit and one from it. A `bool`
@@ -86,23 +92,40 @@ pub fn len(w: u64) -> usize
 }
 
 // The code of the token's text.
-#[tactic(auto, unfolding(crate::specs::Words::code_of))]
+#[tactic(auto, unfolding(crate::specs::Words::code_of, crate::specs::Words::coding_of))]
 pub fn code(w: u64) -> Option<u64>
     ensures { CodeIs w result }
 {
-    match w / CODE {
+    match w / CODE % CODES {
         0 => None,
         c => Some(c),
     }
 }
 
-// The token with the code c.
-#[tactic(auto, unfolding(crate::specs::Words::with_code))]
-pub(crate) fn with_code(w: u64, c: u64) -> u64
-    requires { c < 268435456 }
-    ensures { result ≡ with_code w c }
+// The traits of the token, 0 where they are not known.
+#[tactic(auto, unfolding(crate::specs::Words::traits_of, crate::specs::Words::coding_of))]
+pub(crate) fn traits(w: u64) -> u64
+    ensures { result ≡ traits_of w }
 {
-    w % CODE + c * CODE
+    w / CODE / CODES
+}
+
+// The token with the code c, or 0, and the traits m.
+#[tactic(auto, unfolding(crate::specs::Words::with_coding))]
+pub(crate) fn with_coding(w: u64, c: u64, m: u64) -> u64
+    requires { (c < 64) × (m < 4194304) }
+    ensures { result ≡ with_coding w c m }
+{
+    w % CODE + (c + m * CODES) * CODE
+}
+
+// The token with its text at `start` of the area. What is known of it goes along.
+#[tactic(auto, unfolding(crate::specs::Words::moved, crate::specs::Words::kind_of))]
+pub fn moved(w: u64, start: usize) -> u64
+    requires { start < 65536 }
+    ensures { result ≡ moved w start }
+{
+    w % 8 + 8 + wide(start) * 16 + w / LEN * LEN
 }
 
 // The token without the first n bytes of its text.

@@ -41,14 +41,14 @@ module _ (tape area : Text) (b : Option Token) (v : ℕ) {w k : ℕ} (ew : w ≡
   unfolding reads_here is ◌and◌ ◌or◌
   reads_other p q r = rw (← ew, ← ek, ne_eqb k 3 p, ne_eqb k 1 q, ne_eqb k 4 r)
 
-  module _ {s : Text} (es : s ≡ text_of tape area w) {x : Bool} where
-    pub reads-keyword : k ≡ Keyword → x ≡ starts_with s (bytes "*(") → x ≡ reads_here b (token_of tape area v)
+  module _ {x : Bool} where
+    pub reads-keyword : k ≡ Keyword → x ≡ (is Keyword (token_of tape area w) and starts_with (text_of tape area w) (bytes "*(")) → x ≡ reads_here b (token_of tape area v)
     unfolding reads_here is ◌and◌ ◌or◌
-    reads-keyword h e = rw (← ew, ← ek, h, ← es) (or_only e)
+    reads-keyword h e = rw (← ew, ← ek, h) (or_only (rw (← ek, h) at e))
 
-    pub reads-register : k ≡ Register → x ≡ starts_with s (bytes "var_") → x ≡ reads_here b (token_of tape area v)
+    pub reads-register : k ≡ Register → x ≡ starts_with (text_of tape area w) (bytes "var_") → x ≡ reads_here b (token_of tape area v)
     unfolding reads_here is ◌and◌ ◌or◌
-    reads-register h e = rw (← ew, ← ek, h, ← es) (or_only e)
+    reads-register h e = rw (← ew, ← ek, h) (or_only e)
 
   reads-symbol : k ≡ Symbol → reads_here b (token_of tape area v) ≡ not (let_some b else false then λ t. ends_with t.text (bytes "&"))
   unfolding reads_here is ◌and◌ ◌or◌
@@ -59,13 +59,13 @@ module _ (tape area : Text) (ws : List ℕ) (i : ℕ) {w k : ℕ} (ew : w ≡ ge
   unfolding before_at when◌then◌else◌ let_some◌else◌then◌ not
   reads_first e = sym (reads-symbol tape area (before_at (tokens_of tape area ws) i) (get_or ws i 0) ew ek h ∙ rw e)
 
-  pub reads-behind : i < length ws → (i ≡ 0 → ⊥) → {u : ℕ} → u ≡ get_or ws (i - 1) 0 → {s : Text} → s ≡ text_of tape area u → {x : Bool} → x ≡ ends_with s (bytes "&")
+  pub reads-behind : i < length ws → (i ≡ 0 → ⊥) → {u : ℕ} → u ≡ get_or ws (i - 1) 0 → {x : Bool} → x ≡ ends_with (text_of tape area u) (bytes "&")
       → flip x ≡ reads_here (before_at (tokens_of tape area ws) i) (token_of tape area (get_or ws i 0))
   unfolding before_at when◌then◌else◌ let_some◌else◌then◌
-  reads-behind b n eu es ex =
+  reads-behind b n eu ex =
       not_same ex
       ∙ sym (reads-symbol tape area (before_at (tokens_of tape area ws) i) (get_or ws i 0) ew ek h
-      ∙ rw (ne_eqb i 0 n, get_at (token_of tape area) ws (i - 1) (omega arith), ← eu, ← es))
+      ∙ rw (ne_eqb i 0 n, get_at (token_of tape area) ws (i - 1) (omega arith), ← eu))
 
 -- the word before the token k points into its text
 pub before-points : {tape area : Text} {ws : List ℕ} {x : Expr} (k : ℕ) → Holds tape area ws → Expression ws x → k < x.count

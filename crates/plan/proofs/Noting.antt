@@ -5,7 +5,6 @@ use native.Mathlib.Omega.{arith}
 use native.Mathlib.Nat.{le_refl}
 use native.Mathlib.Numerals.{add-one}
 use mathlib.Core.Path.{◌≡◌, refl, sym, ap, ◌∙◌}
-use mathlib.Core.Logic.{⊎_elim, inl, inr}
 use mathlib.Core.Bool.{Bool, true, false}
 use mathlib.Core.List.{List, [], ◌∷◌, ◌++◌, map-append, append_assoc, append-nil}
 use lib.ListN.{length, take, drop, get_or, set, length-map, length-drop, length-append, length-set, drop_of_length-le, get_or-map}
@@ -19,10 +18,10 @@ use Rattle.reference.specs.Run.{addressed_here, addressed_in}
 use Rattle.reference.proofs.Cases.{by-if}
 use Rattle.laws.proofs.Scans.{if-true, if-false, and_true, and_false}
 use Rattle.laws.proofs.Parts.{part-below}
-use Rattle.lines.specs.Words.{buffer_of, start_of, len_of, word, source, text_of, token_of, tokens_of, Coded, Points, Holds}
+use Rattle.lines.specs.Words.{buffer_of, start_of, len_of, word, source, text_of, token_of, tokens_of, Points, Holds}
 use Rattle.lines.specs.Lines.{part_of, bare_in, bare_listing}
 use Rattle.lines.proofs.words.Each.{map_same}
-use Rattle.lines.proofs.words.Tokens.{text_length, holds_snoc, take_behind, behind-points, behind-means}
+use Rattle.lines.proofs.words.Tokens.{coded_same, text_length, holds_snoc, take_behind, behind-points, behind-means}
 use Rattle.lines.proofs.words.Lines.{bare_at}
 use Rattle.std.proofs.Common.{Option, Some, None, Bor, add-zero}
 use Rattle.std.specs.declared.slice.Windows.{Windows}
@@ -44,22 +43,18 @@ module _ (buffer more : Text) {w : ℕ} (h : Points buffer buffer w) where
   name-part : take (len_of w) (drop (start_of w) (buffer ++ more)) ≡ take (len_of w) (drop (start_of w) buffer)
   name-part = sym (rw take-append_seam at (part-below (start_of w) (len_of w) (length buffer) (buffer ++ more) below))
 
-  name-coded : Coded (buffer ++ more) w
-  unfolding Coded
-  name-coded = ⊎_elim inl (λ s. inr (s.0, rw name-part s.1)) h.coded
+  name-stays : text_of (buffer ++ more) (buffer ++ more) w ≡ text_of buffer buffer w
+  unfolding text_of
+  name-stays =
+      rw (one_source (buffer ++ more) (buffer_of w), one_source buffer (buffer_of w)) name-part
 
   name-points : Points (buffer ++ more) (buffer ++ more) w
   name-points =
       record {
         inside = rw (one_source (buffer ++ more) (buffer_of w), length-append) (omega (arith, below));
         short = h.short;
-        coded = name-coded;
+        coded = coded_same buffer buffer (buffer ++ more) (buffer ++ more) w (sym name-stays) h.coded;
       }
-
-  name-stays : text_of (buffer ++ more) (buffer ++ more) w ≡ text_of buffer buffer w
-  unfolding text_of
-  name-stays =
-      rw (one_source (buffer ++ more) (buffer_of w), one_source buffer (buffer_of w)) name-part
 
 module _ (buffer more : Text) {ws : List ℕ} (h : Holds buffer buffer ws) where
   names-point : Holds (buffer ++ more) (buffer ++ more) ws

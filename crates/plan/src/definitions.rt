@@ -9,6 +9,7 @@ use ground::kinds;
 use lines::fams::Named;
 use lines::shapes::Expr;
 use lines::texts::Texts;
+use lines::traits::{self, has};
 use lines::{fams, shapes, words};
 
 // The register or slot with its width and its lowest bit, the right side, whether the line has a call mark, and whether the right side
@@ -29,13 +30,13 @@ fn reads_at(texts: &Texts<'_>, line: &[u64], x: Expr, k: usize) -> bool
 {
     let w = shapes::expr_word(line, x, k);
     match words::kind(w) {
-        kinds::KEYWORD => text::starts(words::text(texts, w), b"*("),
-        kinds::REGISTER => text::starts(words::text(texts, w), b"var_"),
+        kinds::KEYWORD => has(texts, w, traits::DEREFERENCE),
+        kinds::REGISTER => has(texts, w, traits::SLOT),
         kinds::SYMBOL => {
             k == 0
                 || {
                     let before = shapes::expr_word(line, x, k - 1);
-                    !text::ends(words::text(texts, before), b"&")
+                    !has(texts, before, traits::AMPERSAND)
                 }
         }
         _ => false,

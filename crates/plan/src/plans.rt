@@ -19,6 +19,7 @@ use life::{Followed, LabelledListing, dead_after};
 use lines::fams::Fam;
 use lines::shapes::Expr;
 use lines::texts::{Listing, Texts};
+use lines::traits::Kw;
 use lines::{fams, shapes, words};
 
 // The right side of line `line` takes the place of each token of the family in each line after it, up to line `last`, that uses the family,
@@ -159,7 +160,7 @@ fn plan_use(
 {
     let line = words::line_of(scope.listing.tokens, scope.listing.lines[j]);
     let v = followed(&scope.listing, i, d, rules);
-    if shapes::has_kw(&scope.listing.texts, line, b"while") || !dead_after(scope, j, v) {
+    if shapes::has_kw(&scope.listing.texts, line, Kw::While) || !dead_after(scope, j, v) {
         return None;
     }
     plan_among(&scope.listing, i, j, d, rules)

@@ -17,6 +17,7 @@ use life::{Followed, LabelledListing, Touched, dead_after};
 use linefacts::{fact_number, is_calling, is_transparent};
 use lines::fams::Fam;
 use lines::texts::{Listing, Texts};
+use lines::traits::{self, Kw, has};
 use lines::{fams, shapes, words};
 use std::ops::ControlFlow;
 
@@ -28,8 +29,8 @@ fn ends_run(listing: &Listing<'_>, l: u64, base_indent: u64) -> bool
     let line = words::line_of(listing.tokens, l);
     shapes::is_label(&listing.texts, line)
         || words::indent(l) != base_indent
-        || shapes::has_kw(&listing.texts, line, b"while")
-        || shapes::has_kw(&listing.texts, line, b"goto")
+        || shapes::has_kw(&listing.texts, line, Kw::While)
+        || shapes::has_kw(&listing.texts, line, Kw::Goto)
 }
 
 // With line j looked at: the last line that uses or overwrites the constant v, if a line uses it, `last` being that line before; and
@@ -118,10 +119,8 @@ fn updates_first(texts: &Texts<'_>, line: &[u64], f: Fam) -> bool
     2 <= line.len()
         && fams::is_of(texts, line[0], f)
         && words::kind(line[1]) == kinds::PUNCT
-        && {
-            let s = words::text(texts, line[1]);
-            !text::starts(s, b" = ") && !text::starts(s, b" ==")
-        }
+        && !has(texts, line[1], traits::ASSIGN)
+        && !has(texts, line[1], traits::EQUAL)
 }
 
 // Whether a line that uses the family does not only read it, or reads less than 32 bits of it.

@@ -13,8 +13,8 @@ ghost use Rattle.lines.specs.Texts.{Holds, Known, Listed, Points, bare_listing, 
 use ground::kinds;
 use lines::fams::Fam;
 use lines::texts::{Listing, Texts};
+use lines::traits::{self, has};
 use lines::words;
-use text::{ends, starts};
 
 // The names, and a word for each.
 // Kept: words that point into a buffer, not a list of texts: the names are copied when a round begins, since the area that they stand in is
@@ -65,9 +65,8 @@ fn gather_slot(texts: &Texts<'_>, before: u64, w: u64, names: &mut SlotBuffer<'_
     ensures noted { Noted (addressed_here ((token_of texts.now before, token_of texts.now w) ∷ [])) (len_of w) 1 names.old names.new }
     ensures lent { SameSlots names.old names.new }
 {
-    let s = words::text(texts, w);
-    if ends(words::text(texts, before), b"&") && starts(s, b"var_") {
-        names.push(s);
+    if has(texts, before, traits::AMPERSAND) && has(texts, w, traits::SLOT) {
+        names.push(words::text(texts, w));
     }
 }
 

@@ -19,6 +19,7 @@ use life::Touched;
 use linefacts::{fact_number, is_calling, is_transparent};
 use lines::fams::{Fam, Named};
 use lines::texts::{Listing, Texts};
+use lines::traits::{self, has};
 use lines::{fams, shapes, words};
 
 // What a line after a definition is to it: its single use, a line that it may pass, or the end of the search.
@@ -56,7 +57,7 @@ fn leaves_inputs(texts: &Texts<'_>, source: &[u64], line: &[u64], d: Definition)
         return false;
     };
     !fams::mentions(texts, source, d.expr, n.family)
-        && !(d.reads && text::starts(words::text(texts, line[0]), b"var_"))
+        && !(d.reads && has(texts, line[0], traits::SLOT))
 }
 
 // What the line l is to the definition d of the line s.
@@ -153,10 +154,8 @@ fn is_compound(texts: &Texts<'_>, line: &[u64], pos: usize) -> bool
     pos == 0
         && 2 <= line.len()
         && words::kind(line[1]) == kinds::PUNCT
-        && {
-            let s = words::text(texts, line[1]);
-            text::begins_operator(s) && !text::starts(s, b" = ")
-        }
+        && !has(texts, line[1], traits::ASSIGN)
+        && text::begins_operator(words::text(texts, line[1]))
 }
 
 // Whether the use at `pos` may be replaced by an expression of this width, whatever its part.
@@ -200,6 +199,6 @@ pub fn is_standalone(texts: &Texts<'_>, line: &[u64], pos: usize) -> bool
 {
     pos != 0
         && pos + 1 < line.len()
-        && text::delimits_before(words::text(texts, line[pos - 1]))
-        && text::delimits_after(words::text(texts, line[pos + 1]))
+        && has(texts, line[pos - 1], traits::DELIMITS_BEFORE)
+        && has(texts, line[pos + 1], traits::DELIMITS_AFTER)
 }

@@ -55,6 +55,8 @@ fn raise(g: &FormedListing<'_>, i: usize, rules: Rules, seen: &mut [bool], sets:
 // The same with the tables lent apart.
 // Kept: the forms are lent to be written, and are not: the borrow checker has no rule for a slice that is read through tables of which
 // another is lent to be written.
+// Not inlined: a cleaning that keeps no cautions is faster where this does not stand in its attempts.
+#[inline(never)]
 fn raise_in(
     listing: &Listing<'_>,
     i: usize,

@@ -95,6 +95,8 @@ fn raise(n: &Noting<'_>, parts: &mut [Option<Before>], seen: &mut [bool], sets: 
 }
 
 // The same of the plan j, of tables lent one by one. `forms` is only read.
+// Not inlined: a cleaning that keeps no cautions is faster where this does not stand in its attempts.
+#[inline(never)]
 fn begin_join(
     listing: &Listing<'_>,
     j: Join,

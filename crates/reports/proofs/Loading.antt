@@ -4,7 +4,7 @@ use mathlib.Core.Path.{subst}
 use Rattle.std.specs.Prelude as std
 use Rattle.reference.specs.Listing.{Listing}
 use Rattle.reference.specs.Questions.{Refused, Passed, read}
-use Rattle.reference.proofs.Reading.{passed_inj}
+use Rattle.reference.proofs.Reading.{passed_inj, refused_passed}
 use Rattle.lines.specs.Lines.{Reading, own, listing_read}
 use Rattle.tape.specs.declared.questions.Totals.{Totals}
 use Rattle.tables.specs.Tables.{Loaded}
@@ -29,6 +29,10 @@ module _ (tape tokens lines addresses : List ℕ) (t : Totals) (l : Loaded tape 
   pub tells_it : ((reading : Reading) → Tells (listing_read tape tape (take t.tokens tokens) reading (take t.lines lines)))
       → (input : Listing) → read tape ≡ Passed input → Tells input
   tells_it h input e = subst Tells (same_listing input e) (h (own addresses))
+
+-- of a tape that is refused nothing need be told
+pub none_told : (tape : List ℕ) {number place : ℕ} → read tape ≡ Refused number place → (input : Listing) → read tape ≡ Passed input → Tells input
+none_told tape r input e = absurd (refused_passed (sym r ∙ e))
 
 module _ (tape : List ℕ) (n : ℕ) where
   pub of_refused : {number place : ℕ} → read tape ≡ Refused number place → broken tape n ≡ meaning 14

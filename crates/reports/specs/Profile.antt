@@ -19,7 +19,7 @@ breach_words breach.NoReturn = bytes "the last line does not begin with the Keyw
 breach_words breach.NoTarget = bytes "the line does not assign to a 64-bit register (as rax, r8)"
 breach_words breach.NarrowRegister = bytes "a Register in this line is no 64-bit register (as rax, r8)"
 breach_words breach.UntidyNumber = bytes "a Number in this line has a plus, a second minus or a zero in front"
-breach_words breach.UnreadNumber = bytes "a Number in this line is none that C reads"
+breach_words breach.UnreadNumber = bytes "a Number in this line is none that the profile reads"
 breach_words breach.ForeignToken = bytes "a token in this line is no Register, Number or Punct"
 breach_words breach.NoBlank = bytes "behind the return of this line stands no blank"
 breach_words breach.NoEquals = bytes "behind the register of this line stands no = between blanks"

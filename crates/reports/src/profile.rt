@@ -3,15 +3,13 @@ ghost use Rattle.std.specs.Prelude.{◌≡◌, ◌+◌, ◌≤◌, length};
 ghost use Rattle.text.specs.Cursor.{Written};
 ghost use Rattle.reference.specs.Listing.{Listing};
 ghost use Rattle.reference.specs.Questions.{Passed, read};
-ghost use Rattle.tape.specs.Questions.{AcceptedTape};
-ghost use Rattle.formula.specs.Breaches.{breach_at, Tells};
+ghost use Rattle.formula.specs.Breaches.{Tells};
 ghost use Rattle.reports.specs.Profile.{breach_words, words_of_breach, broken, no_register};
 
 use crate::explained::put_head;
 use crate::text_of;
 use answers::{Reason, Refusal};
 use formula::Breach;
-use lines::marks::Marks;
 use text::Cursor;
 
 // The words for what breaks the profile.
@@ -28,7 +26,7 @@ fn breach_words(breach: Breach) -> &'static [u8]
         Breach::UntidyNumber => {
             b"a Number in this line has a plus, a second minus or a zero in front"
         }
-        Breach::UnreadNumber => b"a Number in this line is none that C reads",
+        Breach::UnreadNumber => b"a Number in this line is none that the profile reads",
         Breach::ForeignToken => b"a token in this line is no Register, Number or Punct",
         Breach::NoBlank => b"behind the return of this line stands no blank",
         Breach::NoEquals => b"behind the register of this line stands no = between blanks",
@@ -38,20 +36,6 @@ fn breach_words(breach: Breach) -> &'static [u8]
         }
         Breach::TwoPuncts => b"two Puncts stand side by side in this line",
     }
-}
-
-// What in line n, counted from 0, of an accepted tape breaks the profile. The tables are this function's own.
-fn breach_in(tape: &[u8], n: usize) -> Option<Breach>
-    requires { AcceptedTape tape.now }
-    ensures first { (lines : Listing) → read tape.now ≡ Passed lines → result ≡ breach_at lines n }
-    ensures tells { (lines : Listing) → read tape.now ≡ Passed lines → Tells lines }
-{
-    let mut tokens = [0u64; 1024];
-    let mut lines = [0u64; 256];
-    let mut addresses = [0u64; 256];
-    let mut marks = [Marks { low: 0, high: 0 }; 256];
-    let loaded = tables::load(tape, &mut tokens, &mut lines, &mut addresses, &mut marks);
-    formula::breach_at(tape, &tokens[..loaded.tokens], &lines[..loaded.lines], n)
 }
 
 // The general words of 14, where nothing breaks it.
@@ -64,12 +48,20 @@ fn words_of_breach(breach: Option<Breach>) -> &'static [u8]
     }
 }
 
-// The words for what in line n, counted from 0, of a tape's listing breaks the profile.
+// The words for what in line n, counted from 0, of a tape's listing breaks the profile. The tables are this function's own.
 pub(crate) fn broken(tape: &[u8], n: usize) -> &'static [u8]
-    ensures { result.now ≡ broken tape.now n }
+    ensures words { result.now ≡ broken tape.now n }
+    ensures tells { (lines : Listing) → read tape.now ≡ Passed lines → Tells lines }
 {
-    match tape::check::<false>(tape) {
-        Ok(_) => words_of_breach(breach_in(tape, n)),
+    let mut tokens = [0u64; 1024];
+    let mut lines = [0u64; 256];
+    match formula::load(tape, &mut tokens, &mut lines) {
+        Ok(loaded) => words_of_breach(formula::breach_at(
+            tape,
+            &tokens[..loaded.tokens],
+            &lines[..loaded.lines],
+            n,
+        )),
         Err(_) => text_of(Reason::OutsideProfile),
     }
 }

@@ -18,13 +18,13 @@ use Rattle.reference.specs.Listing.{Listing}
 use Rattle.reference.specs.Questions.{Answer, Refused, Passed, let_passed◌then◌, read}
 use Rattle.reference.specs.Straight.{breaks}
 use Rattle.reference.proofs.Cases.{bind-some, unless-some, some_inj}
-use Rattle.reference.proofs.Reading.{passed_inj}
 use Rattle.laws.proofs.Scans.{if-true, if-false}
 use Rattle.lines.specs.Lines.{Reading, own, listing_read}
 use Rattle.tape.specs.declared.questions.Totals.{Totals}
 use Rattle.tables.specs.Tables.{Loaded}
 use Rattle.tables.proofs.loading.Loaded.{loaded-limits}
-use Rattle.formula.proofs.Loading.{filled, pointing, breaks_is}
+use Rattle.formula.specs.Profile.{Filled}
+use Rattle.lines.specs.Words.{Holds}
 use Rattle.solving.specs.Solutions.{Answers}
 use Rattle.start.specs.Start.{Entry, entries, is_register, known_entries, solution, ask_names, ask_formula, start_reply}
 use Rattle.start.specs.Pairs.{returned_pair}
@@ -92,7 +92,7 @@ module _ (chosen : Text) (list : List ℕ) (wanted : ℕ) (lines : Listing) (r :
   unfolding ask_formula let_some◌else◌then◌
   out_of_profile n q = rw (sym e ∙ ap option_of q) refl
 
-  in_profile : r ≡ None → ask_formula lines chosen list wanted ≡ ask_names lines chosen list wanted
+  pub in_profile : r ≡ None → ask_formula lines chosen list wanted ≡ ask_names lines chosen list wanted
   unfolding ask_formula let_some◌else◌then◌
   in_profile q = rw (sym e ∙ ap option_of q) refl
 
@@ -103,25 +103,22 @@ module _ (tape : List ℕ) (chosen : Text) (list : List ℕ) (wanted : ℕ) wher
   unfolding start_reply let_passed◌then◌
   tape_refused e = rw e refl
 
-  pub tape_passed : {lines : Listing} → read tape ≡ Passed lines → ask_formula lines chosen list wanted ≡ start_reply tape chosen list wanted
+  tape_passed : {lines : Listing} → read tape ≡ Passed lines → ask_formula lines chosen list wanted ≡ start_reply tape chosen list wanted
   unfolding start_reply let_passed◌then◌
   tape_passed e = rw e refl
 
 -- ---- what was loaded
 
-module _ (tape tokens lines addresses : List ℕ) (t : Totals) (l : Loaded tape tokens lines addresses t) (r : std.Option ℕ)
-    (e : (reading : Reading) → option_of r ≡ breaks (listing_read tape tape (take t.tokens tokens) reading (take t.lines lines))) where
-  pub profiled : r ≡ None → Profiled tape tape (take t.tokens tokens) (take t.lines lines)
-  profiled q =
-      record { filled = filled tape tokens lines addresses t l; holds = pointing tape tokens lines addresses t l; in_profile = λ reading. sym (e reading) ∙ ap option_of q }
+pub profiled : {tape tokens lines : List ℕ} → Filled tape tokens lines → Holds tape tape tokens → (r : std.Option ℕ)
+    → ((reading : Reading) → option_of r ≡ breaks (listing_read tape tape tokens reading lines)) → r ≡ None → Profiled tape tape tokens lines
+profiled f h r e q = record { filled = f; holds = h; in_profile = λ reading. sym (e reading) ∙ ap option_of q }
 
+module _ (tape tokens lines addresses : List ℕ) (t : Totals) (l : Loaded tape tokens lines addresses t) where
   pub few_words : length (take t.tokens tokens) ≤ 1024
   few_words = omega (arith, length-take-most t.tokens tokens, loaded-limits l)
 
-  -- the answer of the loaded listing is that of the tape's
-  pub loaded-answer : r ≡ None → (chosen : Text) (list : List ℕ) (wanted : ℕ) {a : Answer ℕ}
-      → ((reading : Reading) → a ≡ ask_names (listing_read tape tape (take t.tokens tokens) reading (take t.lines lines)) chosen list wanted)
-      → (input : Listing) → read tape ≡ Passed input → a ≡ ask_formula input chosen list wanted
-  loaded-answer q chosen list wanted h input p =
-      h (own addresses) ∙ ap (λ (x : Listing). ask_names x chosen list wanted) (passed_inj (sym (l.listing tape) ∙ p))
-      ∙ sym (in_profile chosen list wanted input r (breaks_is tape tokens lines addresses t l r e input p) q)
+  -- the answer of the loaded listing is that of the tape
+  pub loaded-answer : (chosen : Text) (list : List ℕ) (wanted : ℕ) {a : Answer ℕ}
+      → ((reading : Reading) → a ≡ ask_formula (listing_read tape tape (take t.tokens tokens) reading (take t.lines lines)) chosen list wanted)
+      → a ≡ start_reply tape chosen list wanted
+  loaded-answer chosen list wanted h = h (own addresses) ∙ tape_passed tape chosen list wanted (l.listing tape)

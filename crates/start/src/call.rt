@@ -1,9 +1,8 @@
 // The call: the tape's questions, 14, 16, 15, and the answer. Nothing is lent to be written.
 ghost use Rattle.std.specs.Prelude.{◌≡◌, ◌≤◌, length};
-ghost use Rattle.reference.specs.Listing as L;
-ghost use Rattle.reference.specs.Questions.{Passed, read};
-ghost use Rattle.tape.specs.Questions.{AcceptedTape};
-ghost use Rattle.lines.specs.Lines.{Reading};
+ghost use Rattle.formula.specs.Profile.{Filled};
+ghost use Rattle.lines.specs.Lines.{Reading, listing_read};
+ghost use Rattle.lines.specs.Words.{Holds};
 ghost use Rattle.answers.specs.Answers.{answer_of};
 ghost use Rattle.start.specs.Start.{ask_names, ask_formula, start_reply};
 ghost use Rattle.start.specs.Formulas.{listing_in, Profiled};
@@ -12,7 +11,6 @@ use crate::listed::{are_known, is_register};
 use crate::reckoning::reckon;
 use crate::starts::Starts;
 use answers::{Answer, Reason};
-use lines::marks::Marks;
 use lines::texts::{Listing, Texts};
 use solving::solve_sum;
 
@@ -29,21 +27,12 @@ fn solved(formula: &Listing<'_>, starts: &Starts<'_>, wanted: u64) -> Answer
     solve_sum(p.multiplier, p.constant, wanted).ok_or(Reason::NoStartValue.at(0))
 }
 
-// 14 and what follows, of a tape that passed its questions.
-fn asked(tape: &[u8], starts: &Starts<'_>, wanted: u64) -> Answer
-    requires { AcceptedTape tape.now }
-    ensures { (input : L.Listing) → read tape.now ≡ Passed input
-        → answer_of result ≡ ask_formula input starts.now.chosen.now starts.now.list.now wanted }
+// 14 and what follows, of a listing whose texts are all in the tape.
+fn asked(tape: &[u8], tokens: &[u64], lines: &[u64], starts: &Starts<'_>, wanted: u64) -> Answer
+    requires { Filled tape.now tokens.now lines.now × Holds tape.now tape.now tokens.now × (length tokens.now ≤ 1024) }
+    ensures { (reading : Reading) → answer_of result ≡ ask_formula (listing_read tape.now tape.now tokens.now reading lines.now)
+        starts.now.chosen.now starts.now.list.now wanted }
 {
-    // Kept: the four arrays, which stand in this frame, since there is no heap. Crate clean has a struct that owns its four (`Tables`);
-    // this crate does not rest on clean, and for the one call here a struct of its own is no plainer.
-    let mut tokens = [0u64; 1024];
-    let mut lines = [0u64; 256];
-    let mut addresses = [0u64; 256];
-    let mut marks = [Marks { low: 0, high: 0 }; 256];
-    let loaded = tables::load(tape, &mut tokens, &mut lines, &mut addresses, &mut marks);
-    let tokens = &tokens[..loaded.tokens];
-    let lines = &lines[..loaded.lines];
     match formula::breaks(tape, tokens, lines) {
         Some(line) => Err(Reason::OutsideProfile.at(line)),
         None => {
@@ -62,6 +51,14 @@ fn asked(tape: &[u8], starts: &Starts<'_>, wanted: u64) -> Answer
 pub fn start_value(tape: &[u8], chosen: &[u8], list: &[u8], wanted: u64) -> Answer
     ensures { answer_of result ≡ start_reply tape.now chosen.now list.now wanted }
 {
-    tape::check::<false>(tape)?;
-    asked(tape, &Starts { chosen, list }, wanted)
+    let mut tokens = [0u64; 1024];
+    let mut lines = [0u64; 256];
+    let loaded = formula::load(tape, &mut tokens, &mut lines)?;
+    asked(
+        tape,
+        &tokens[..loaded.tokens],
+        &lines[..loaded.lines],
+        &Starts { chosen, list },
+        wanted,
+    )
 }

@@ -2,3 +2,4 @@
 pub mod Tables
 pub mod Records
 pub mod Writing
+pub mod Memo

@@ -1,28 +1,31 @@
 -- The records of lines: the line that one means, what a command makes of them, and what the tables of words have of them. Assumes nothing.
 use Rattle.std.specs.Prelude as std
-use Rattle.std.specs.Prelude.{ℕ, ◌+◌, ◌≤◌, ◌<◌, ◌≡◌, true, false, List, map, min, max, eqb, length, take, drop, get_or}
-use Rattle.std.specs.Prelude.{Ok}
+use Rattle.std.specs.Prelude.{ℕ, ◌+◌, ◌-◌, ◌*◌, ◌≤◌, ◌<◌, ◌≡◌, true, false, List, map, min, max, eqb, length, take, drop, get_or, set}
+use Rattle.std.specs.Prelude.{Result, Ok, Err}
 use Rattle.std.specs.Bool.{then_some}
 use Rattle.std.proofs.Math.Option.{Option, none}
 use Rattle.reference.specs.Options.{option_of}
 use Rattle.reference.specs.Text.{Text}
 use Rattle.reference.specs.Listing as L
-use Rattle.reference.specs.Listing.{Line, Listing}
+use Rattle.reference.specs.Listing.{token, Line, Listing}
 use Rattle.reference.specs.Spans.{Marks, span_of}
 use Rattle.reference.specs.Marks.{adds}
-use Rattle.reference.specs.Questions.{Passed, read, marks_in}
+use Rattle.reference.specs.Tape.{old}
+use Rattle.reference.specs.Questions.{Passed, Advance, read_command, read, marks_in}
 use Rattle.joining.specs.Carried.{TOP, Pair, marks_of, Kept, pair_at}
-use Rattle.lines.specs.Words.{tokens_of, Holds}
+use Rattle.lines.specs.Words.{word, tokens_of, Holds, Recoded}
 use Rattle.lines.specs.Lines.{first_of, count_of, indent_of, addressed_of, origin_of, line_word}
-use Rattle.tape.specs.Commands.{size_of, ends, found_in, standing, Stood}
-use Rattle.tape.specs.Questions.{totals_of, counted, Counts}
-use Rattle.tables.specs.Tables.{tokens_after, Loaded}
+use Rattle.tape.specs.Commands.{command_in, found_in, standing}
+use Rattle.tape.specs.Questions.{totals_of, stepped, ReadOne}
+use Rattle.tables.specs.Memo.{TokenAt, Good}
+use Rattle.tables.specs.Tables.{Loaded}
 use Rattle.tape.specs.declared.commands.Command.{Command}
 use Rattle.tape.specs.declared.commands.Command.TheVariants.{Addressed, Plain, Marked, Token, End}
 use Rattle.tape.specs.declared.questions.Totals.{Totals}
+use Rattle.tape.specs.declared.reader.TapeReader.{TapeReader}
 use Rattle.tables.specs.declared.records.LineRecord.{LineRecord}
 use Rattle.tables.specs.declared.loading.LoadState.{LoadState}
-use Rattle.tables.specs.declared.loading.LoadStep.{LoadStep}
+use Rattle.answers.specs.declared.Refusal.{Refusal}
 
 abbrev pub blank : LineRecord
 blank = record { address = std.None; indent = 0; first = 0; count = 0; marks = record { low = 0; high = 0 } }
@@ -113,7 +116,16 @@ pub record Recorded (tape tokens : List ℕ) (records : List LineRecord) (r : To
   pub few : r.lines ≤ 256
   pub marks : (listing : Listing) → read tape ≡ Passed listing → MarksRecorded listing (marks_in tape) records r.lines
 
+-- the same of a tape that may be refused: what then stands in the tables is not said
+abbrev pub RecordedIf : List ℕ → List ℕ → List LineRecord → Result Totals Refusal → Type 0
+RecordedIf tape tokens records (Ok r) = Recorded tape tokens records r
+RecordedIf tape tokens records (Err r) = Unit {0}
+
 -- ---- one command
+
+-- one token more
+abbrev pub longer_by_one : LineRecord → LineRecord
+longer_by_one line = record line { count = line.count + 1 }
 
 -- the record that the command at hand is about, `line` being the record of the last line
 abbrev pub line_after : Command → Totals → LineRecord → LineRecord
@@ -122,67 +134,102 @@ line_after (Addressed address indent) t line =
 line_after (Plain indent) t line =
     record { address = std.None; indent = indent; first = t.tokens; count = 0; marks = record { low = TOP; high = 0 } }
 line_after (Marked low high) t line = record line { marks = record { low = min line.marks.low low; high = max line.marks.high high } }
-line_after (Token kind count) t line = record line { count = line.count + 1 }
+line_after (Token kind count) t line = longer_by_one line
 line_after End t line = line
 
--- its place, `last` being that of the last line
-abbrev pub place_after : Command → Totals → ℕ → ℕ
-place_after (Addressed address indent) t last = t.lines
-place_after (Plain indent) t last = t.lines
-place_after (Marked low high) t last = last
-place_after (Token kind count) t last = last
-place_after End t last = last
+-- its place
+abbrev pub place_after : Command → Totals → ℕ
+place_after (Addressed address indent) t = t.lines
+place_after (Plain indent) t = t.lines
+place_after (Marked low high) t = t.lines - 1
+place_after (Token kind count) t = t.lines - 1
+place_after End t = t.lines - 1
 
-abbrev pub start_of : LoadState
-start_of = record { at = 0; line = 0; totals = record { lines = 0; tokens = 0; text = 0; fresh = false } }
+-- the records with the command
+abbrev pub records_after : Command → Totals → List LineRecord → List LineRecord
+records_after c t records = set records (place_after c t) (line_after c t (get_or records (t.lines - 1) blank))
 
--- a token's numbers fit its word, and there is room for it
-abbrev pub TakesToken : ℕ → Command → Totals → List ℕ → Type 0
-TakesToken at (Addressed address indent) t tokens = Unit {0}
-TakesToken at (Plain indent) t tokens = Unit {0}
-TakesToken at (Marked low high) t tokens = Unit {0}
-TakesToken at (Token kind count) t tokens = (kind < 8) × (at + 3 + count < 65536) × (t.tokens < length tokens)
-TakesToken at End t tokens = Unit {0}
+-- the command can be laid in the records
+abbrev pub Lays : Command → Totals → List LineRecord → Type 0
+Lays (Addressed address indent) t records = t.lines < length records
+Lays (Plain indent) t records = t.lines < length records
+Lays (Marked low high) t records = (0 < t.lines) × (t.lines ≤ length records)
+Lays (Token kind count) t records =
+    (0 < t.lines) × (t.lines ≤ length records) × ((get_or records (t.lines - 1) blank).count < 2047)
+Lays End t records = Unit {0}
 
--- the line can grow by the command
-abbrev pub Grows : Command → LineRecord → Type 0
-Grows (Addressed address indent) line = Unit {0}
-Grows (Plain indent) line = Unit {0}
-Grows (Marked low high) line = Unit {0}
-Grows (Token kind count) line = line.count < 2047
-Grows End line = Unit {0}
+-- a token whose text has `count` bytes stands at the offset, passes the questions of a token alone, and its numbers fit its word
+pub record TokenPassed (tape : List ℕ) (at kind count : ℕ) : Type 0 where
+  pub stands : TokenAt tape at (token kind (take count (drop (at + 3) tape)))
+  pub good : Good (token kind (take count (drop (at + 3) tape)))
+  pub long : length (take count (drop (at + 3) tape)) ≡ count
+  pub near : at + 3 + count < 65536
+  pub early : at + 8 < 65536
 
--- a command can be taken
-pub record Takes (tape tokens : List ℕ) (s : LoadState) (line : LineRecord) (c : Command) : Type 0 where
-  pub inside : s.at + size_of c ≤ length tape
-  pub counts : Counts c s.totals
-  pub token : TakesToken s.at c s.totals tokens
-  pub grows : Grows c line
+-- it does so, and there is room for its word
+abbrev pub TakesToken : List ℕ → ℕ → Command → Totals → List ℕ → Type 0
+TakesToken tape at (Addressed address indent) t tokens = Unit {0}
+TakesToken tape at (Plain indent) t tokens = Unit {0}
+TakesToken tape at (Marked low high) t tokens = Unit {0}
+TakesToken tape at (Token kind count) t tokens = TokenPassed tape at kind count × (t.tokens < length tokens)
+TakesToken tape at End t tokens = Unit {0}
 
--- the command at the offset, known to stand there, can be taken
-pub record Ready (tape tokens : List ℕ) (s : LoadState) (line : LineRecord) : Type 0 where
-  pub stood : Stood tape s.at
-  pub takes : (c : Command) → found_in tape s.at (Ok c) ≡ standing tape s.at → Takes tape tokens s line c
+-- the tokens with the command: the word of a token, coded or not, stands behind those before it
+abbrev pub Worded : List ℕ → ℕ → Command → Totals → List ℕ → List ℕ → Type 0
+Worded tape at (Addressed address indent) t tokens tokens' = tokens' ≡ tokens
+Worded tape at (Plain indent) t tokens tokens' = tokens' ≡ tokens
+Worded tape at (Marked low high) t tokens tokens' = tokens' ≡ tokens
+Worded tape at (Token kind count) t tokens tokens' = (w : ℕ) × Recoded tape (word kind 0 (at + 3) count) w × (tokens' ≡ set tokens t.tokens w)
+Worded tape at End t tokens tokens' = tokens' ≡ tokens
 
--- one step of loading: the command at the offset was taken
-pub record StepLoads (tape : List ℕ) (s : LoadState) (line : LineRecord) (tokens tokens' : List ℕ) (r : LoadStep) : Type 0 where
-  pub command : Command
-  pub stands : found_in tape s.at (Ok command) ≡ standing tape s.at
-  pub line_is : r.line ≡ line_after command s.totals line
-  pub tokens_are : tokens' ≡ tokens_after s.at command s.totals tokens
-  pub at_is : r.next.at ≡ s.at + size_of command
-  pub place_is : r.next.line ≡ place_after command s.totals s.line
-  pub totals_are : totals_of r.next.totals ≡ counted command (totals_of s.totals)
-  pub goes : ends command ≡ false
+-- ---- the next command
+
+abbrev pub state_of : TapeReader → Totals → LoadState
+state_of reader t = record { at = reader.at; totals = t }
+
+-- the totals are within the limits, the offset is where they allow it, and there is room
+pub record Loadable (tape : List ℕ) (s : LoadState) (tokens : List ℕ) (records : List LineRecord) : Type 0 where
   pub bytes : (k : ℕ) → get_or tape k 0 < 256
+  pub near : s.at ≤ s.totals.text + 3 * s.totals.tokens + 27 * s.totals.lines
+  pub few_lines : s.totals.lines ≤ 256
+  pub few_tokens : s.totals.tokens ≤ 1024
+  pub short_text : s.totals.text ≤ 24576
+  pub begun : s.totals.fresh ≡ true → 0 < s.totals.lines
+  pub short_line : 0 < s.totals.lines → (get_or records (s.totals.lines - 1) blank).count ≤ s.totals.tokens
+  pub long_tokens : 1024 ≤ length tokens
+  pub long_records : 256 ≤ length records
 
--- the last: FF stands at the offset
-pub record LoadEnds (tape : List ℕ) (s : LoadState) (tokens tokens' : List ℕ) : Type 0 where
+-- the answer of the questions to the command at the offset, where it leads to the next state
+abbrev pub advance_to : List ℕ → ℕ → Command → LoadState → Advance
+advance_to tape at c s = record { command = command_in tape at c; next = s.at; totals = totals_of s.totals }
+
+-- the command at the offset passed the questions and was taken
+pub record StepLoads (tape : List ℕ) (s : LoadState) (tokens : List ℕ) (records : List LineRecord) (tokens' : List ℕ) (records' : List LineRecord)
+    (s' : LoadState) : Type 0 where
   pub command : Command
   pub stands : found_in tape s.at (Ok command) ≡ standing tape s.at
-  pub tokens_are : tokens' ≡ tokens
-  pub over : ends command ≡ true
+  pub passed : ReadOne old tape s.at (totals_of s.totals) false (advance_to tape s.at command s')
+  pub worded : Worded tape s.at command s.totals tokens tokens'
+  pub records_are : records' ≡ records_after command s.totals records
 
-abbrev pub Loads : List ℕ → LoadState → LineRecord → List ℕ → List ℕ → std.Option LoadStep → Type 0
-Loads tape s line tokens tokens' (std.Some r) = StepLoads tape s line tokens tokens' r
-Loads tape s line tokens tokens' std.None = LoadEnds tape s tokens tokens'
+-- nothing was taken
+pub record Unloaded (tokens : List ℕ) (records : List LineRecord) (tokens' : List ℕ) (records' : List LineRecord) : Type 0 where
+  pub tokens_are : tokens' ≡ tokens
+  pub records_are : records' ≡ records
+
+-- FF stands at the offset, and passed the questions
+pub record LoadEnds (tape : List ℕ) (s : LoadState) (tokens : List ℕ) (records : List LineRecord) (tokens' : List ℕ) (records' : List LineRecord)
+    : Type 0 where
+  pub last : Advance
+  pub passed : ReadOne old tape s.at (totals_of s.totals) true last
+  pub same : Unloaded tokens records tokens' records'
+
+abbrev pub LoadsKnown : List ℕ → LoadState → List ℕ → List LineRecord → List ℕ → List LineRecord → std.Option LoadState → Type 0
+LoadsKnown tape s tokens records tokens' records' (std.Some s') = StepLoads tape s tokens records tokens' records' s'
+LoadsKnown tape s tokens records tokens' records' std.None = Unloaded tokens records tokens' records'
+
+-- a refusal is that of the command at the offset
+abbrev pub Loads : List ℕ → LoadState → List ℕ → List LineRecord → List ℕ → List LineRecord → Result (std.Option LoadState) Refusal → Type 0
+Loads tape s tokens records tokens' records' (Ok (std.Some s')) = StepLoads tape s tokens records tokens' records' s'
+Loads tape s tokens records tokens' records' (Ok std.None) = LoadEnds tape s tokens records tokens' records'
+Loads tape s tokens records tokens' records' (Err r) = stepped tape s.at (Err r) ≡ read_command tape s.at (totals_of s.totals)

@@ -1,5 +1,5 @@
 -- The tables of a listing whose texts are all in the tape: how a command is added, and what they mean at the end. Assumes nothing.
-use Rattle.std.specs.Prelude.{ℕ, ◌+◌, ◌-◌, ◌≤◌, ◌<◌, ◌≡◌, List, length, take, get_or, set}
+use Rattle.std.specs.Prelude.{ℕ, ◌+◌, ◌-◌, ◌≤◌, ◌<◌, ◌≡◌, List, length, take, get_or, set, Result, Ok, Err}
 use Rattle.reference.specs.Text.{Text}
 use Rattle.reference.specs.Listing.{Listing}
 use Rattle.reference.specs.Spans.{Marks}
@@ -12,6 +12,7 @@ use Rattle.tape.specs.Questions.{sizes_of, sizes_in}
 use Rattle.tape.specs.declared.commands.Command.{Command}
 use Rattle.tape.specs.declared.commands.Command.TheVariants.{Addressed, Plain, Marked, Token, End}
 use Rattle.tape.specs.declared.questions.Totals.{Totals}
+use Rattle.answers.specs.declared.Refusal.{Refusal}
 
 -- ---- marks by the number of the input line
 
@@ -95,3 +96,8 @@ pub record LoadedMarks (tape lines lows highs : List ℕ) (r : Totals) : Type 0 
   pub kept : (k : ℕ) → k < r.lines → Kept (pair_at lows highs k)
   pub means : (listing : Listing) → read tape ≡ Passed listing
       → marks_for lows highs (take r.lines lines) ≡ own_marks listing (marks_in tape)
+
+-- the same of a tape that may be refused: what is then in the tables is not said
+abbrev pub LoadedIf : List ℕ → List ℕ → List ℕ → List ℕ → List ℕ → List ℕ → Result Totals Refusal → Type 0
+LoadedIf tape tokens lines addresses lows highs (Ok r) = Loaded tape tokens lines addresses r × LoadedMarks tape lines lows highs r
+LoadedIf tape tokens lines addresses lows highs (Err r) = Unit {0}

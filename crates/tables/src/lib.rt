@@ -2,6 +2,7 @@
 #![tactic(auto)]
 
 pub mod loading; // the listing of an accepted tape
+mod memo; // short tokens that were seen before
 pub mod records; // the records of lines
 pub mod writing; // the tape of a listing
 

@@ -4,146 +4,237 @@
 // `load` is this one, and lends its fields apart afterwards. A struct here would ask of callers that they have just that one.
 // Kept: addresses and marks are two tables, not one of pairs, which would be no plainer: the rounds join the marks and never see an
 // address. With one table they would have to promise besides that the addresses stand.
-ghost use Rattle.std.specs.Prelude.{◌≡◌, ◌≤◌, length};
-ghost use Rattle.lines.specs.Words.{Recodes};
-ghost use Rattle.tape.specs.Questions.{AcceptedTape};
-ghost use Rattle.tables.specs.Records.{Fitting, Holding, Marking, Recorded, line_after, place_after, start_of, TakesToken, Grows};
-ghost use Rattle.tables.specs.Records.{Ready, Loads};
-ghost use Rattle.tables.specs.Tables.{tokens_after, Loaded, LoadedMarks};
+ghost use Rattle.std.specs.Prelude.{◌≡◌, ◌+◌, ◌≤◌, ◌<◌, length, get_or, set};
+ghost use Rattle.lines.specs.Words.{word, Recoded};
+ghost use Rattle.tape.specs.Questions.{checked, sizes_in};
+ghost use Rattle.tables.specs.Memo.{Memory};
+ghost use Rattle.tables.specs.Records.{Fitting, Holding, Marking, RecordedIf, records_after, Lays, TokenPassed, TakesToken, Worded};
+ghost use Rattle.tables.specs.Records.{blank, longer_by_one, state_of, Loadable, LoadsKnown, Loads};
+ghost use Rattle.tables.specs.Tables.{LoadedIf};
+ghost use Rattle.reference.specs.Questions.{let_passed◌then◌, Passed, read};
 ghost use Rattle.lines.specs.Marks.{highs_of, lows_of};
 
-use crate::records::{BLANK, LineRecord, NO_MARKS, line_at, store_line};
+use crate::memo::{EMPTY, PLACES, recall, remember};
+use crate::records::{LineRecord, NO_MARKS, line_at, store_line};
+use answers::Refusal;
 use lines::codes::coded;
 use lines::marks::Marks;
-use lines::words::{IN_TAPE, line_word, token_word};
+use lines::words::{IN_TAPE, kind, len, line_word, token_word};
 use tape::commands::{Command, size_of};
-use tape::questions::{NONE, Totals, count_in};
-use tape::reader::known_command;
+use tape::questions::{NONE, Totals, count_in, read_command};
+use tape::reader::TapeReader;
 
-// Where the loading stands: the offset in the tape, the index of the last line's record, and what was read so far.
+// Where the loading stands: the offset of the next command, and what was read before it.
 #[derive(Clone, Copy, Debug, PartialEq, Eq)]
 pub struct LoadState {
     pub at: usize,
-    pub line: usize,
     pub totals: Totals,
 }
 
-// The record that a command is about, and where the loading stands after the command.
-#[derive(Clone, Copy, Debug, PartialEq, Eq)]
-pub struct LoadStep {
-    pub line: LineRecord,
-    pub next: LoadState,
-}
+// ---- one command that passed the questions
 
-// ---- one command
-
-// Before the first command.
-fn start() -> LoadState
-    ensures { result ≡ start_of }
+// The line at an index has one token more.
+fn lengthen(records: &mut [LineRecord], at: usize)
+    requires { (at < length records.old) × ((get_or records.old at blank).count < 2047) }
+    ensures { records.new ≡ set records.old at (longer_by_one (get_or records.old at blank)) }
 {
-    LoadState {
-        at: 0,
-        line: 0,
-        totals: NONE,
-    }
-}
-
-// The record of the line that a command begins, or of the last line with one token more, or with the marks of its 03 joined to its own.
-fn record_after(command: Command, totals: Totals, line: LineRecord) -> LineRecord
-    requires { Grows command line }
-    ensures { result ≡ line_after command totals line }
-{
-    match command {
-        Command::Addressed { address, indent } => LineRecord {
-            address: Some(address),
-            indent,
-            first: totals.tokens,
-            count: 0,
-            marks: Marks {
-                low: address,
-                high: address,
-            },
-        },
-        Command::Plain { indent } => LineRecord {
-            address: None,
-            indent,
-            first: totals.tokens,
-            count: 0,
-            marks: NO_MARKS,
-        },
-        Command::Marked { low, high } => LineRecord {
-            marks: line.marks.joined(Marks { low, high }),
-            ..line
-        },
-        Command::Token { .. } => LineRecord {
+    let line = line_at(records, at);
+    store_line(
+        records,
+        at,
+        LineRecord {
             count: line.count + 1,
             ..line
         },
-        Command::End => line,
+    );
+}
+
+// Lays a command in the records: that of a line behind those of the lines before it; in the last line's one token more, or the marks of a
+// 03 joined to its own.
+fn lay(command: Command, totals: Totals, records: &mut [LineRecord])
+    requires { Lays command totals records.old }
+    ensures { records.new ≡ records_after command totals records.old }
+{
+    match command {
+        Command::Addressed { address, indent } => store_line(
+            records,
+            totals.lines,
+            LineRecord {
+                address: Some(address),
+                indent,
+                first: totals.tokens,
+                count: 0,
+                marks: Marks {
+                    low: address,
+                    high: address,
+                },
+            },
+        ),
+        Command::Plain { indent } => store_line(
+            records,
+            totals.lines,
+            LineRecord {
+                address: None,
+                indent,
+                first: totals.tokens,
+                count: 0,
+                marks: NO_MARKS,
+            },
+        ),
+        Command::Marked { low, high } => {
+            let line = line_at(records, totals.lines - 1);
+            store_line(
+                records,
+                totals.lines - 1,
+                LineRecord {
+                    marks: line.marks.joined(Marks { low, high }),
+                    ..line
+                },
+            );
+        }
+        Command::Token { .. } => lengthen(records, totals.lines - 1),
+        Command::End => {}
     }
 }
 
-// The place of that record.
-fn place_after(command: Command, totals: Totals, last: usize) -> usize
-    ensures { result ≡ place_after command totals last }
+// The word of a token, a Register's with the code of its family. It is remembered.
+fn learn(
+    tape: &[u8],
+    at: usize,
+    kind: u64,
+    count: usize,
+    keys: &mut [u64; PLACES],
+    words: &mut [u64; PLACES],
+) -> u64
+    requires { TokenPassed tape.now at kind count × Memory keys.old words.old }
+    ensures worded { Recoded tape.now (word kind 0 (at + 3) count) result }
+    ensures memory { Memory keys.new words.new }
 {
-    match command {
-        Command::Addressed { .. } | Command::Plain { .. } => totals.lines,
-        Command::Marked { .. } | Command::Token { .. } | Command::End => last,
-    }
+    let w = coded(tape, token_word(kind, IN_TAPE, at + 3, count));
+    remember(tape, at, w, keys, words);
+    w
 }
 
 // Adds a token's word behind the tokens so far.
-fn add_token(at: usize, command: Command, tokens: &mut [u64], totals: Totals)
-    requires { TakesToken at command totals tokens.old }
-    ensures { tokens.new ≡ tokens_after at command totals tokens.old }
+fn add_token(
+    tape: &[u8],
+    at: usize,
+    command: Command,
+    totals: Totals,
+    tokens: &mut [u64],
+    keys: &mut [u64; PLACES],
+    words: &mut [u64; PLACES],
+)
+    requires { TakesToken tape.now at command totals tokens.old × Memory keys.old words.old }
+    ensures worded { Worded tape.now at command totals tokens.old tokens.new }
+    ensures memory { Memory keys.new words.new }
 {
     if let Command::Token { kind, count } = command {
-        tokens[totals.tokens] = token_word(kind, IN_TAPE, at + 3, count);
+        tokens[totals.tokens] = learn(tape, at, kind, count, keys, words);
     }
 }
 
-// Takes the command at the offset, `line` being the record of the last line; at FF there is none to take.
-fn load_command(
-    tape: &[u8],
-    state: LoadState,
-    line: LineRecord,
+// ---- the next command
+
+// Takes the command at the offset if it is a token that the memo knows and one more such fits the limits: it passes all questions.
+// (24,571 bytes and the five of the longest are 24,576.)
+fn load_known(
+    reader: TapeReader<'_>,
+    totals: Totals,
     tokens: &mut [u64],
-) -> Option<LoadStep>
-    requires { Ready tape.now tokens.old state line }
-    ensures { Loads tape.now state line tokens.old tokens.new result }
+    records: &mut [LineRecord],
+    keys: &[u64; PLACES],
+    words: &[u64; PLACES],
+) -> Option<LoadState>
+    requires { Loadable reader.tape.now (state_of reader totals) tokens.old records.old × Memory keys.now words.now }
+    ensures { LoadsKnown reader.entry.tape.now (state_of reader.entry totals) tokens.old records.old tokens.new records.new result }
 {
-    let at = state.at;
-    let totals = state.totals;
-    let command = known_command(tape, at);
-    if command.is_end() {
+    if totals.lines == 0 || 1024 <= totals.tokens || 24571 < totals.text {
         return None;
     }
-    add_token(at, command, tokens, totals);
-    Some(LoadStep {
-        line: record_after(command, totals, line),
-        next: LoadState {
-            at: at + size_of::<false>(command),
-            line: place_after(command, totals, state.line),
-            totals: count_in(command, totals),
-        },
+    let w = recall(reader.tape, reader.at, keys, words)?;
+    let command = Command::Token {
+        kind: kind(w),
+        count: len(w),
+    };
+    tokens[totals.tokens] = w;
+    lengthen(records, totals.lines - 1);
+    Some(LoadState {
+        at: reader.at + size_of::<false>(command),
+        totals: count_in(command, totals),
     })
+}
+
+// Asks the questions of the command at the offset, and takes it; at FF there is none to take.
+fn load_asked(
+    reader: TapeReader<'_>,
+    totals: Totals,
+    tokens: &mut [u64],
+    records: &mut [LineRecord],
+    keys: &mut [u64; PLACES],
+    words: &mut [u64; PLACES],
+) -> Result<Option<LoadState>, Refusal>
+    requires { Loadable reader.tape.now (state_of reader totals) tokens.old records.old × Memory keys.old words.old }
+    ensures loads { Loads reader.entry.tape.now (state_of reader.entry totals) tokens.old records.old tokens.new records.new result }
+    ensures memory { Memory keys.new words.new }
+{
+    let step = read_command::<false>(reader, totals)?;
+    if step.command.is_end() {
+        return Ok(None);
+    }
+    add_token(
+        reader.tape,
+        reader.at,
+        step.command,
+        totals,
+        tokens,
+        keys,
+        words,
+    );
+    lay(step.command, totals, records);
+    Ok(Some(LoadState {
+        at: step.next,
+        totals: step.totals,
+    }))
+}
+
+// Takes the command at the offset, or says which question refuses it.
+fn load_next(
+    reader: TapeReader<'_>,
+    totals: Totals,
+    tokens: &mut [u64],
+    records: &mut [LineRecord],
+    keys: &mut [u64; PLACES],
+    words: &mut [u64; PLACES],
+) -> Result<Option<LoadState>, Refusal>
+    requires { Loadable reader.tape.now (state_of reader totals) tokens.old records.old × Memory keys.old words.old }
+    ensures loads { Loads reader.entry.tape.now (state_of reader.entry totals) tokens.old records.old tokens.new records.new result }
+    ensures memory { Memory keys.new words.new }
+{
+    if let Some(next) = load_known(reader, totals, tokens, records, keys, words) {
+        return Ok(Some(next));
+    }
+    load_asked(reader, totals, tokens, records, keys, words)
 }
 
 // ---- the whole tape
 
-// Loads the lines of a tape that passed the questions: a record for each line and a word for each token.
+// Asks the questions of a tape and loads its lines: a record for each line and a word for each token.
 // Kept: document 01 names the form, "line records are lent as a slice of records" to a few thin functions.
-pub fn fill(tape: &[u8], tokens: &mut [u64], lines: &mut [LineRecord]) -> Totals
-    requires { AcceptedTape tape.now × (1024 ≤ length tokens.old) × (256 ≤ length lines.old) }
-    ensures { Recorded tape.now tokens.new lines.new result }
+pub fn fill(tape: &[u8], tokens: &mut [u64], records: &mut [LineRecord]) -> Result<Totals, Refusal>
+    requires { (1024 ≤ length tokens.old) × (256 ≤ length records.old) }
+    ensures asked { checked result ≡ (let_passed (read tape.now) then λ lines. Passed (sizes_in lines)) }
+    ensures recorded { RecordedIf tape.now tokens.new records.new result }
 {
-    let mut state = start();
-    while let Some(step) = load_command(tape, state, line_at(lines, state.line), tokens) {
-        store_line(lines, step.next.line, step.line);
-        state = step.next;
+    let mut keys = [EMPTY; PLACES];
+    let mut words = [0; PLACES];
+    let mut reader = TapeReader::new(tape);
+    let mut totals = NONE;
+    while let Some(next) = load_next(reader, totals, tokens, records, &mut keys, &mut words)? {
+        reader = reader.moved(next.at);
+        totals = next.totals;
     }
-    state.totals
+    Ok(totals)
 }
 
 // Writes the words, the addresses and the marks of the records into the tables.
@@ -163,53 +254,22 @@ fn spread(records: &[LineRecord], lines: &mut [u64], addresses: &mut [u64], mark
     }
 }
 
-// Fills the tables with the listing of a tape that passed the questions, and says how many lines, tokens and bytes of text it has. The
-// lines go through an array of records of the call's own.
-fn tabled(
-    tape: &[u8],
-    tokens: &mut [u64],
-    lines: &mut [u64],
-    addresses: &mut [u64],
-    marks: &mut [Marks],
-) -> Totals
-    requires accepted_tape { AcceptedTape tape.now }
-    requires in_bounds { (1024 ≤ length tokens.old) × (256 ≤ length lines.old) × (256 ≤ length addresses.old)
-        × (256 ≤ length marks.old) }
-    ensures { Loaded tape.now tokens.new lines.new addresses.new result
-        × LoadedMarks tape.now lines.new (lows_of marks.new) (highs_of marks.new) result }
-{
-    let mut records = [BLANK; 256];
-    let totals = fill(tape, tokens, &mut records);
-    spread(&records[..totals.lines], lines, addresses, marks);
-    totals
-}
-
-// Codes the words.
-fn code_words(tape: &[u8], tokens: &mut [u64])
-    ensures { Recodes tape.now tokens.old tokens.new }
-{
-    for w in tokens {
-        *w = coded(tape, *w);
-    }
-}
-
-// Fills the tables so, each Register with the code of its family.
-// Kept: lengths as clauses, and no arrays of 1024 and 256. That would ask more of callers than this function ever did (no promise of a
-// public function is given up, nor does one ask more), and the cleaning lends 2,048 tokens.
+// Asks the questions of a tape and fills the tables with its listing. Where a question refuses it, what then stands in the tables is not
+// said; what stands in the records is said in neither case.
 pub fn load(
     tape: &[u8],
     tokens: &mut [u64],
     lines: &mut [u64],
     addresses: &mut [u64],
     marks: &mut [Marks],
-) -> Totals
-    requires accepted_tape { AcceptedTape tape.now }
-    requires in_bounds { (1024 ≤ length tokens.old) × (256 ≤ length lines.old) × (256 ≤ length addresses.old)
-        × (256 ≤ length marks.old) }
-    ensures { Loaded tape.now tokens.new lines.new addresses.new result
-        × LoadedMarks tape.now lines.new (lows_of marks.new) (highs_of marks.new) result }
+    records: &mut [LineRecord],
+) -> Result<Totals, Refusal>
+    requires { (1024 ≤ length tokens.old) × (256 ≤ length lines.old) × (256 ≤ length addresses.old) × (256 ≤ length marks.old)
+        × (256 ≤ length records.old) }
+    ensures asked { checked result ≡ (let_passed (read tape.now) then λ lines. Passed (sizes_in lines)) }
+    ensures loaded { LoadedIf tape.now tokens.new lines.new addresses.new (lows_of marks.new) (highs_of marks.new) result }
 {
-    let totals = tabled(tape, tokens, lines, addresses, marks);
-    code_words(tape, &mut tokens[..totals.tokens]);
-    totals
+    let totals = fill(tape, tokens, records)?;
+    spread(&records[..totals.lines], lines, addresses, marks);
+    Ok(totals)
 }

@@ -12,7 +12,7 @@ ghost use Rattle.tables.specs.Writing.{recorded, paged_in, Writes, Wrote};
 ghost use Rattle.lines.specs.Texts.{Holds, Listed, tokens_of};
 ghost use Rattle.lines.specs.Marks.{highs_of, lows_of};
 
-use crate::records::{BLANK, LineRecord, store_line};
+use crate::records::{LineRecord, store_line};
 use lines::marks::Marks;
 use lines::texts::{Listing, Texts};
 use lines::words::{addressed, count, first, indent, kind, origin, text};
@@ -88,14 +88,20 @@ fn put_records(texts: &Texts<'_>, tokens: &[u64], records: &[LineRecord], out: &
     }
 }
 
-// Puts the lines. Their records are an array of the call's own, lent to `gather` and then to `put_records`, as document 01 has it.
-fn put_lines(listing: &Listing<'_>, addresses: &[u64], marks: &[Marks], out: &mut Cursor<'_>)
+// Puts the lines. Their records are lent to `gather` and then to `put_records`, as document 01 has it.
+fn put_lines(
+    listing: &Listing<'_>,
+    addresses: &[u64],
+    marks: &[Marks],
+    records: &mut [LineRecord],
+    out: &mut Cursor<'_>,
+)
     requires { Listed listing.now × (length listing.now.lines.now ≤ 256) × (256 ≤ length addresses.now) × (256 ≤ length marks.now)
+        × (256 ≤ length records.old)
         × Fits out.old (length (lines_bytes (paged_in listing.now addresses.now marks.now))) }
     ensures { Puts out.old (lines_bytes (paged_in listing.now addresses.now marks.now)) out.new }
 {
-    let mut records = [BLANK; 256];
-    gather(listing.lines, addresses, marks, &mut records);
+    gather(listing.lines, addresses, marks, records);
     put_records(
         &listing.texts,
         listing.tokens,
@@ -106,11 +112,17 @@ fn put_lines(listing: &Listing<'_>, addresses: &[u64], marks: &[Marks], out: &mu
 
 // ---- the whole tape
 
-// Writes the listing's tape to the front of `out`, and says how long it is.
+// Writes the listing's tape to the front of `out`, and says how long it is. What then stands in the records is not said.
 // Kept: lengths as clauses, and no arrays of 256, which would ask more of callers than this function ever did (see `load`).
-pub fn write(listing: &Listing<'_>, addresses: &[u64], marks: &[Marks], out: &mut [u8]) -> usize
+pub fn write(
+    listing: &Listing<'_>,
+    addresses: &[u64],
+    marks: &[Marks],
+    records: &mut [LineRecord],
+    out: &mut [u8],
+) -> usize
     requires listed { Listed listing.now × (length listing.now.lines.now ≤ 256) }
-    requires in_bounds { (256 ≤ length addresses.now) × (256 ≤ length marks.now) }
+    requires in_bounds { (256 ≤ length addresses.now) × (256 ≤ length marks.now) × (256 ≤ length records.old) }
     requires lines_in_bounds { length (Tape.write (listing_of listing.now.texts.tape.now listing.now.texts.area.now listing.now.tokens.now
         addresses.now listing.now.lines.now)
         (marks_for (lows_of marks.now) (highs_of marks.now) listing.now.lines.now)) ≤ length out.old }
@@ -119,7 +131,7 @@ pub fn write(listing: &Listing<'_>, addresses: &[u64], marks: &[Marks], out: &mu
         (marks_for (lows_of marks.now) (highs_of marks.now) listing.now.lines.now)) out.old out.new result }
 {
     let mut out = Cursor::new(out, 0);
-    put_lines(listing, addresses, marks, &mut out);
+    put_lines(listing, addresses, marks, records, &mut out);
     writing::put_end(&mut out);
     out.at
 }

@@ -1,5 +1,5 @@
 -- What the code's commands mean, and what stands at an offset of a tape: document 01's questions 3 and 4. Assumes nothing.
-use Rattle.std.specs.Prelude.{ℕ, ◌+◌, ◌≡◌, Bool, true, false, List, [], ◌∷◌, take, drop, Result}
+use Rattle.std.specs.Prelude.{ℕ, ◌+◌, Bool, true, false, List, [], ◌∷◌, take, drop, Result}
 use Rattle.std.proofs.Math.Option.{none, some}
 use Rattle.reference.specs.Listing.{token}
 use Rattle.reference.specs.Tape as Tape
@@ -67,8 +67,3 @@ standing_by form tape at =
 
 abbrev pub standing : List ℕ → ℕ → Answer Sized
 standing = standing_by old
-
--- a command stands at the offset
-pub record Stood (tape : List ℕ) (at : ℕ) : Type 0 where
-  pub what : Sized
-  pub stands : standing tape at ≡ Passed what

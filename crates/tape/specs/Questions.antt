@@ -8,7 +8,7 @@ use Rattle.reference.specs.Claim.{token_count, text}
 use Rattle.reference.specs.Questions as Q
 use Rattle.reference.specs.Questions.{has_line, is_within, is_few, is_short, is_printable, is_over}
 use Rattle.reference.specs.Questions.{place_at, Answer, Passed, ask, Advance, is_end, read_command_by, read}
-use Rattle.tape.specs.Commands.{command_in}
+use Rattle.tape.specs.Commands.{command_in, found_in_by, standing_by}
 use Rattle.tape.specs.declared.commands.Command.{Command}
 use Rattle.tape.specs.declared.commands.Command.TheVariants.{Addressed, Plain, Marked, Token, End}
 use Rattle.tape.specs.declared.questions.Totals.{Totals}
@@ -78,6 +78,11 @@ advance_of tape at a = record { command = command_in tape at a.command; next = a
 
 abbrev pub stepped : List ℕ → ℕ → Result Code.Advance Refusal → Answer Advance
 stepped tape at = answered (advance_of tape at)
+
+-- its command, where there is one, stands at the offset
+abbrev pub StandsIn : TapeForm → List ℕ → ℕ → Result Code.Advance Refusal → Type 0
+StandsIn form tape at (Ok a) = found_in_by form tape at (Ok a.command) ≡ standing_by form tape at
+StandsIn form tape at (Err r) = Unit {0}
 
 -- a command passed the questions, and whether it is the end
 pub record ReadOne (form : TapeForm) (tape : List ℕ) (at : ℕ) (t : Q.Totals) (ended : Bool) (a : Advance) : Type 0 where

@@ -9,10 +9,10 @@ ghost use Rattle.reference.specs.Questions.{has_line, is_within, is_offending};
 ghost use Rattle.reference.specs.Questions.{read_command_by, let_passed◌then◌, Passed, read_by};
 ghost use Rattle.reference.specs.Steps.{FromHereBy};
 ghost use Rattle.tape.specs.Commands.{form_of, looked_at, command_in};
-ghost use Rattle.tape.specs.Questions.{said, asking, totals_of, sizes_in, Counts, counted, stepped, SteppedOn, checked};
+ghost use Rattle.tape.specs.Questions.{said, asking, totals_of, sizes_in, Counts, counted, stepped, StandsIn, SteppedOn, checked};
 
 use crate::commands::{Command, header_of, size_of};
-use crate::reader::{command_at, token_text};
+use crate::reader::TapeReader;
 use answers::{Reason, Refusal};
 use ground::kinds::NUMBER;
 
@@ -108,10 +108,12 @@ fn ask_token(kind: u64, text: &[u8], at: usize, totals: Totals) -> Result<(), Re
 }
 
 // The question that refuses a command that stands whole at an offset, if there is one.
-fn ask(tape: &[u8], at: usize, command: Command, totals: Totals) -> Result<(), Refusal>
-    requires { at + looked_at command ≤ length tape.now }
-    ensures { said result ≡ asking (drop at tape.now) at (totals_of totals) (command_in tape.now at command) }
+fn ask(reader: TapeReader<'_>, command: Command, totals: Totals) -> Result<(), Refusal>
+    requires { reader.at + looked_at command ≤ length reader.tape.now }
+    ensures { said result ≡ asking (drop reader.entry.at reader.entry.tape.now) reader.entry.at (totals_of totals)
+        (command_in reader.entry.tape.now reader.entry.at command) }
 {
+    let at = reader.at;
     match command {
         Command::Addressed { indent, .. } | Command::Plain { indent } => ask_line(
             indent, at, totals,
@@ -123,9 +125,9 @@ fn ask(tape: &[u8], at: usize, command: Command, totals: Totals) -> Result<(), R
                 Err(Reason::OutOfPlace.at(at))
             }
         }
-        Command::Token { kind, count } => ask_token(kind, token_text(tape, at, count), at, totals),
+        Command::Token { kind, count } => ask_token(kind, reader.token(count), at, totals),
         Command::End => {
-            if tape.len() - at == 1 {
+            if reader.tape.len() - at == 1 {
                 Ok(())
             } else {
                 Err(Reason::BytesAfterEnd.at(at))
@@ -159,19 +161,34 @@ pub fn count_in(command: Command, totals: Totals) -> Totals
     }
 }
 
-// Reads the command at an offset of a tape of either form, the totals so far being given: any, also such as no tape reaches. The answer
-// depends only on them and on the tape from the offset on (`FromHereBy`, request M-102).
+// Reads the command at the reader's offset, in a tape of either form, the totals so far being given: any, also such as no tape reaches. The
+// answer depends only on them and on the tape from the offset on (`FromHereBy`, request M-102).
+pub fn read_command<const BASED: bool>(
+    reader: TapeReader<'_>,
+    totals: Totals,
+) -> Result<Advance, Refusal>
+    ensures result_value { stepped reader.entry.tape.now reader.entry.at result
+        ≡ read_command_by (form_of BASED) reader.entry.tape.now reader.entry.at (totals_of totals) }
+    ensures from_here { FromHereBy (form_of BASED) reader.entry.tape.now reader.entry.at (totals_of totals)
+        (stepped reader.entry.tape.now reader.entry.at result) }
+    ensures stands { StandsIn (form_of BASED) reader.entry.tape.now reader.entry.at result }
+{
+    let command = reader.next::<BASED>()?; // first NoCommand and CutOff
+    ask(reader, command, totals)?;
+    Ok(Advance {
+        command,
+        next: reader.at + size_of::<BASED>(command),
+        totals: count_in(command, totals),
+    })
+}
+
+// The same at an offset of a tape.
 pub fn step<const BASED: bool>(tape: &[u8], at: usize, totals: Totals) -> Result<Advance, Refusal>
     ensures result_value { stepped tape.now at result ≡ read_command_by (form_of BASED) tape.now at (totals_of totals) }
     ensures from_here { FromHereBy (form_of BASED) tape.now at (totals_of totals) (stepped tape.now at result) }
+    ensures stands { StandsIn (form_of BASED) tape.now at result }
 {
-    let command = command_at::<BASED>(tape, at)?; // first NoCommand and CutOff
-    ask(tape, at, command, totals)?;
-    Ok(Advance {
-        command,
-        next: at + size_of::<BASED>(command),
-        totals: count_in(command, totals),
-    })
+    read_command::<BASED>(TapeReader::new(tape).moved(at), totals)
 }
 
 // ---- the whole tape
@@ -186,15 +203,14 @@ pub const NONE: Totals = Totals {
     fresh: false,
 };
 
-// Reads the command at an offset as `step` does; at FF there is none more.
+// Reads the command at the reader's offset; at FF there is none more.
 fn step_on<const BASED: bool>(
-    tape: &[u8],
-    at: usize,
+    reader: TapeReader<'_>,
     totals: Totals,
 ) -> Result<Option<Advance>, Refusal>
-    ensures { SteppedOn (form_of BASED) tape.now at (totals_of totals) result }
+    ensures { SteppedOn (form_of BASED) reader.entry.tape.now reader.entry.at (totals_of totals) result }
 {
-    let step = step::<BASED>(tape, at, totals)?;
+    let step = read_command::<BASED>(reader, totals)?;
     Ok(if step.command.is_end() {
         None
     } else {
@@ -210,10 +226,10 @@ fn step_on<const BASED: bool>(
 pub fn check<const BASED: bool>(tape: &[u8]) -> Result<Totals, Refusal>
     ensures { checked result ≡ (let_passed (read_by (form_of BASED) tape.now) then λ lines. Passed (sizes_in lines)) }
 {
-    let mut at = header_of::<BASED>();
+    let mut reader = TapeReader::new(tape).moved(header_of::<BASED>());
     let mut totals = NONE;
-    while let Some(step) = step_on::<BASED>(tape, at, totals)? {
-        at = step.next;
+    while let Some(step) = step_on::<BASED>(reader, totals)? {
+        reader = reader.moved(step.next);
         totals = step.totals;
     }
     Ok(totals)

@@ -1,9 +1,9 @@
-// A tape reader holds the tape and its offset. Commands and texts are read through it, here and in the crates above: `command_at`,
-// `known_command` and `token_text` make one.
+// A tape reader holds the tape and its offset. Commands and texts are read through it: the questions and the loading move one from the first
+// command to the last, `command_at` and `token_text` make one at an offset.
 // Kept: document 01 names the form, "A tape reader holds the tape and its offset": a small struct, and few thin functions over those on a
 // plain slice and numbers. So `next` and `token` promise what `found_at` and `text_at` do.
-ghost use Rattle.std.specs.Prelude.{◌≡◌, ◌+◌, ◌≤◌, length, take, drop, Ok};
-ghost use Rattle.tape.specs.Commands.{form_of, found_in_by, found_in, standing_by, standing, Stood};
+ghost use Rattle.std.specs.Prelude.{◌≡◌, ◌+◌, ◌≤◌, length, take, drop};
+ghost use Rattle.tape.specs.Commands.{form_of, found_in_by, standing_by};
 
 use crate::commands::{Command, found_at, text_at};
 use answers::Refusal;
@@ -64,15 +64,4 @@ pub fn token_text(tape: &[u8], at: usize, count: usize) -> &[u8]
     ensures { result.now ≡ take count (drop (at + 3) tape.now) }
 {
     TapeReader::new(tape).moved(at).token(count)
-}
-
-// The command at an offset where one is known to stand.
-pub fn known_command(tape: &[u8], at: usize) -> Command
-    requires { Stood tape.now at }
-    ensures { found_in tape.now at (Ok result) ≡ standing tape.now at }
-{
-    match command_at::<false>(tape, at) {
-        Ok(command) => command,
-        Err(_) => unreachable!(),
-    }
 }

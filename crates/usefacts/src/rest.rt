@@ -17,6 +17,7 @@ use crate::reads::{self, text_at};
 use crate::widths;
 use ground::rules::Rules;
 use lines::texts::Texts;
+use lines::traits::Kw;
 use lines::{shapes, words};
 
 // The two runs of words.
@@ -53,7 +54,7 @@ fn kept(texts: &Texts<'_>, line: &[u64]) -> usize
     ensures is { result ≡ kept (tokens_of texts.now line.now) }
     ensures inside { result ≤ length line.now }
 {
-    match shapes::kw_at(texts, line, b"goto") {
+    match shapes::kw_at(texts, line, Kw::Goto) {
         Some(k) => k,
         None => line.len(),
     }

@@ -9,7 +9,7 @@ use mathlib.Core.Bool.{Bool, true, false, false≢true}
 use mathlib.Core.List.{[]}
 use mathlib.Core.Option.{Option, none, some}
 use lib.Dec.{eqb, ltb}
-use lib.ListN.{length, take, drop, get_or}
+use lib.ListN.{length, take, get_or}
 use lib.Seq.{take-length}
 use borrow.Author.Tests.{eqb-true, eq-eqb, ne_eqb, lt-ltb, le-ltb}
 use Rattle.reference.specs.Control.{◌and◌, when◌then◌else◌, let_some◌else◌then◌}
@@ -26,9 +26,10 @@ use Rattle.names.proofs.Searches.{position_none, position_at, any_at, all-below,
 use Rattle.names.proofs.Texts.{same_true}
 use Rattle.names.proofs.Same.{same_row}
 use Rattle.lines.specs.Codes.{bucket, family_number, WIDTHS, coded_width, coded_name, Says, Codes, Placed}
-use Rattle.lines.specs.Words.{kind_of, buffer_of, start_of, len_of, code_of, first_bytes, text_of, token_of, Coded, CodeIs, Points}
+use Rattle.lines.specs.Words.{kind_of, len_of, coding_of, code_of, traits_of, first_bytes, text_of, token_of, Describes, Coded, CodeIs, Points}
+use Rattle.lines.specs.Traits.{traits}
 use Rattle.lines.specs.Fams.{fam_text, Names}
-use Rattle.lines.proofs.words.Tokens.{in_tape, text_length, first-bytes-means, first-bytes-points}
+use Rattle.lines.proofs.words.Tokens.{text_length, first-bytes-means, first-bytes-points}
 use Rattle.lines.proofs.fams.Families.{fam-row, row-names, word-names}
 use Rattle.std.specs.Prelude.{Some, None}
 use Rattle.std.specs.Prelude as std
@@ -112,12 +113,25 @@ module _ (c : ℕ) (s : Text) where
 module _ (tape area : Text) (w : ℕ) (p : Points tape area w) where
   -- what `code` answers is true of the text
   pub says : {o : std.Option ℕ} {c : ℕ} → CodeIs w o → o ≡ Some c → Says c (text_of tape area w)
-  unfolding Coded text_of
+  unfolding Coded code_of
   says {c = c} h e = let t = h.some c e in step t.0 t.1 p.coded
     where
-      step : c ≡ code_of w → (c ≡ 0 → ⊥) → (code_of w ≡ 0) ⊎ ((buffer_of w ≡ 0) × Says (code_of w) (take (len_of w) (drop (start_of w) tape))) → Says c (text_of tape area w)
-      step ec n (inl z) = absurd (n (ec ∙ z))
-      step ec n (inr t) = rw (in_tape tape area t.0, ec) t.1
+      either : c ≡ code_of w → (c ≡ 0 → ⊥) → (code_of w ≡ 0) ⊎ Says (code_of w) (text_of tape area w) → Says c (text_of tape area w)
+      either ec n (inl z) = absurd (n (ec ∙ z))
+      either ec n (inr q) = rw ec q
+
+      step : c ≡ code_of w → (c ≡ 0 → ⊥) → (coding_of w ≡ 0) ⊎ Describes (code_of w) (traits_of w) (kind_of w) (text_of tape area w) → Says c (text_of tape area w)
+      step ec n (inl z) = absurd (n (ec ∙ omega arith))
+      step ec n (inr d) = either ec n d.code
+
+  -- and so are the traits that it keeps
+  pub kept_traits : {m : ℕ} → m ≡ traits_of w → (m ≡ 0 → ⊥) → m ≡ traits (token_of tape area w)
+  unfolding Coded traits_of
+  kept_traits {m} e n = e ∙ step p.coded
+    where
+      step : (coding_of w ≡ 0) ⊎ Describes (code_of w) (traits_of w) (kind_of w) (text_of tape area w) → traits_of w ≡ traits (token_of tape area w)
+      step (inl z) = absurd (n (omega arith))
+      step (inr d) = d.traits
 
   module _ {c : ℕ} (q : Says c (text_of tape area w)) where
     pub has_byte : 1 ≤ len_of w

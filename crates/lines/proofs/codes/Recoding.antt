@@ -2,39 +2,51 @@
 use Prim.Native.Nat.{ℕ, suc, ◌+◌, ◌-◌, ◌<◌, min}
 use native.Mathlib.Nat.{lt_of_lt_of_le, min-le_left, min-le_right}
 use native.Mathlib.Omega.{arith}
-use mathlib.Core.Logic.{◌⊎◌, inr}
+use mathlib.Core.Logic.{◌⊎◌, inl, inr}
 use mathlib.Core.Path.{◌≡◌, refl, sym, ◌∙◌}
 use mathlib.Core.List.{List, [], ◌∷◌, map}
 use lib.ListN.{length, take, drop, get_or, length-take, length-drop}
 use lib.Seq.{get_or-take, get_or-drop}
 use Rattle.reference.specs.Text.{Text}
+use Rattle.reference.specs.Listing.{token}
 use Rattle.std.specs.Prelude as std
+use Rattle.std.specs.Prelude.{unwrap_or}
 use Rattle.lines.specs.Codes.{Says, Codes}
-use Rattle.lines.specs.Words.{buffer_of, start_of, len_of, with_code, text_of, token_of, tokens_of, Coded, Holds, Recoded, Recodes}
+use Rattle.lines.specs.Traits.{traits}
+use Rattle.lines.specs.Words.{kind_of, buffer_of, start_of, len_of, with_coding, text_of, token_of, tokens_of, Coded, Holds, Recoded, Recodes}
 use Rattle.lines.specs.Lines.{first_of, count_of, part_of, line_in, listing_of, Lined, Listed}
+use Rattle.lines.proofs.traits.Tests.{traits_below}
 use Rattle.lines.proofs.words.Each.{map_same}
-use Rattle.lines.proofs.words.Tokens.{coded_kind, coded_place, coded_start, coded-len, coded-code}
+use Rattle.lines.proofs.words.Tokens.{coded_kind, coded_place, coded_start, coded-len, coded-code, coded-traits, in_tape, part_is}
 
 -- ---- one word
 
-module _ (tape : Text) (w : ℕ) {p s l c r : ℕ} (ep : p ≡ buffer_of w) (z : p ≡ 0) (es : s ≡ start_of w) (el : l ≡ len_of w) {o : std.Option ℕ}
-    (h : Codes (take (s + l - s) (drop s tape)) o) (ec : o ≡ std.Some c) (er : r ≡ with_code w c) where
-  same_part : take (s + l - s) (drop s tape) ≡ take (len_of w) (drop (start_of w) tape)
-  same_part = let k : s + l - s ≡ len_of w = omega arith in rw (k, es)
+-- the code that is kept where there may be none
+pub kept_code : {s : Text} {o : std.Option ℕ} {c : ℕ} → Codes s o → c ≡ unwrap_or o 0 → (c < 64) × ((c ≡ 0) ⊎ Says c s)
+kept_code {o = std.Some d} h e = rw e (h.small d refl, inr (h.true d refl))
+kept_code {o = std.None} h e = rw e (omega arith, inl refl)
 
-  code-true : (c ≡ 0) ⊎ ((buffer_of w ≡ 0) × Says c (take (len_of w) (drop (start_of w) tape)))
-  code-true = let f = h.true c ec in inr (sym ep ∙ z, rw same_part at f)
+module _ (tape : Text) (w : ℕ) {p s l : ℕ} (ep : p ≡ buffer_of w) (z : p ≡ 0) (es : s ≡ start_of w) (el : l ≡ len_of w) where
+  part_is_text : (area : Text) → take (s + l - s) (drop s tape) ≡ text_of tape area w
+  part_is_text area = part_is tape area w tape es el (in_tape tape area (sym ep ∙ z))
 
-  pub recoded_with : Recoded tape w r
+  pub recoded_with : {k c m r : ℕ} {o : std.Option ℕ} → k ≡ kind_of w → Codes (take (s + l - s) (drop s tape)) o → c ≡ unwrap_or o 0
+      → m ≡ traits (token k (take (s + l - s) (drop s tape))) → r ≡ with_coding w c m → Recoded tape w r
   unfolding Coded text_of
-  recoded_with = rw er (record {
-    means = λ area. rw (coded_kind w c, coded_place w c, coded_start w c, coded-len w c);
-    points = λ area p. record {
-      inside = rw (coded_place w c, coded_start w c, coded-len w c) p.inside;
-      short = rw (coded_start w c, coded-len w c) p.short;
-      coded = rw (coded_place w c, coded_start w c, coded-len w c, coded-code w c) code-true;
-    };
-  })
+  recoded_with {k} {c} {m} ek h ec em er =
+      let q = kept_code h ec in
+      rw er (record {
+        means = λ area. rw (coded_kind w c m, coded_place w c m, coded_start w c m, coded-len w c m);
+        points = λ area p. record {
+          inside = rw (coded_place w c m, coded_start w c m, coded-len w c m) p.inside;
+          short = rw (coded_start w c m, coded-len w c m) p.short;
+          coded = rw (coded_kind w c m, coded_place w c m, coded_start w c m, coded-len w c m, coded-code w c m q.0, coded-traits w c m q.0)
+              (inr (record { code = rw (part_is_text area) at q.1; traits = em ∙ rw (ek, part_is_text area) }));
+        };
+      })
+
+-- what `coded` leaves
+pub ruleset recoding = (kept_code, recoded_with, traits_below)
 
 -- ---- lists of words
 

@@ -18,6 +18,7 @@ use Rattle.reference.specs.Listing.{Token, token, is, Punct}
 use Rattle.reference.specs.Shapes.{cut_semicolon, begins_assignment, right_side, assignment_of}
 use Rattle.reference.proofs.Cases.{both, true-false}
 use Rattle.laws.proofs.Scans.{if-true, if-false, starts_short}
+use Rattle.lines.specs.Traits.{ends}
 use Rattle.lines.specs.Words.{kind_of, len_of, without_first, text_of, token_of, tokens_of, Points, Holds}
 use Rattle.lines.specs.declared.shapes.Expr.{Expr}
 use Rattle.lines.specs.Shapes.{opened, expr_words, Expression, Opens, Sides, Assigns, sided}
@@ -93,7 +94,7 @@ module _ {tape area : Text} {ws : List ℕ} {first : ℕ} (o : Opens tape area w
     expression c b hc hi hb =
         record { mark = o.mark; short = (o.holds.at 1 o.long).short; first_is = low; some = hc; inside = hi; cut_is = hb }
 
-    -- w is the last word, s its text, b whether it ends so, n its length
+    -- w is the last word, b whether it ends so, n its length
     module _ {w : ℕ} (ew : w ≡ get_or (opened ws) (length ws - 1) 0) where
       last_word : get_or base last 0 ≡ w
       last_word = base-last ∙ sym ew
@@ -101,30 +102,30 @@ module _ {tape area : Text} {ws : List ℕ} {first : ℕ} (o : Opens tape area w
       pub last-points : Points tape area w
       last-points = rw last_word at (base-holds.at last (omega (arith, base-length)))
 
-      module _ {s : Text} (es : s ≡ text_of tape area w) {b : Bool} (eb : b ≡ ends_with s (bytes ";")) where
+      module _ {b : Bool} (eb : b ≡ ends (bytes ";") (token_of tape area w)) where
         told : {y : Bool} → b ≡ y → ends_with (text_of tape area (get_or base last 0)) (bytes ";") ≡ y
-        told f = rw (last_word, ← es) (sym eb ∙ f)
+        told f = rw last_word (sym eb ∙ f)
 
         pub side_open : b ≡ false → Sides tape area ws first None
         unfolding let_some◌else◌then◌
         side_open f = nothing (rw (cut_open tape area last base base-length (told f)))
 
-        module _ (ends : b ≡ true) {n : ℕ} (en : n ≡ len_of w) where
+        module _ (e : b ≡ true) {n : ℕ} (en : n ≡ len_of w) where
           some_byte : 1 ≤ len_of w
-          some_byte = omega (arith, ends_some (text_of tape area w) (rw (← es) (sym eb ∙ ends)), text_length last-points)
+          some_byte = omega (arith, ends_some (text_of tape area w) (sym eb ∙ e), text_length last-points)
 
           pub side-kept : (n ≡ 1 → ⊥) → Sides tape area ws first (Some (record { first = first; count = length ws - first; cut = true }))
           unfolding expr_words when◌then◌else◌
           side-kept f =
               something (record { first = first; count = length ws - first; cut = true })
               (expression (length ws - first) true (omega arith) (omega arith)
-              (λ e. let q : first + (length ws - first) - 1 ≡ length ws - 1 = omega arith in rw (q, ← ew) some_byte))
-              (cut-kept tape area last base base-length base-holds (told ends) (rw (last_word, ← en) f)
+              (λ z. let q : first + (length ws - first) - 1 ≡ length ws - 1 = omega arith in rw (q, ← ew) some_byte))
+              (cut-kept tape area last base base-length base-holds (told e) (rw (last_word, ← en) f)
               ∙ rw (take_all (length ws - first) base (omega (arith, base-length))))
 
           module _ (one : n ≡ 1) where
             gone : cut_semicolon (tokens_of tape area base) ≡ some (tokens_of tape area (take last base))
-            gone = cut-gone tape area last base base-length base-holds (told ends) (rw (last_word, ← en) one)
+            gone = cut-gone tape area last base base-length base-holds (told e) (rw (last_word, ← en) one)
 
             pub side-only : length ws ≡ first + 1 → Sides tape area ws first None
             unfolding let_some◌else◌then◌ when◌then◌else◌

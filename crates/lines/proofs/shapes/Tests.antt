@@ -1,18 +1,16 @@
--- Tests of tokens, as the code makes them: of the kind, and of `is_operator`. Assumes nothing.
+-- Tests of tokens, as the code makes them: of the kind, and of `is_operator_expr`. Assumes nothing.
 use Prim.Native.Nat.{ℕ, ◌≤◌, ◌<◌}
 use mathlib.Core.Path.{◌≡◌, refl, sym, ap, ◌∙◌}
-use mathlib.Core.Bool.{Bool, true, false, not}
+use mathlib.Core.Bool.{Bool, true, false}
 use mathlib.Core.List.{List}
 use lib.Dec.{eqb}
 use lib.ListN.{length}
 use borrow.Author.Tests.{eq-eqb, ne_eqb, lt-ltb, le-ltb}
 use Rattle.reference.specs.Control.{◌and◌}
 use Rattle.reference.specs.Lists.{any}
-use Rattle.reference.specs.Text.{Text, bytes, ◌≟◌, trim}
-use Rattle.reference.specs.Listing.{Token, is, Punct}
+use Rattle.reference.specs.Listing.{Token, is}
 use Rattle.reference.specs.Shapes.{is_operator, is_operator_expr}
 use Rattle.laws.proofs.Scans.{and_here, and_second, and_true, and_false, not_same, tests}
-use Rattle.lines.specs.Words.{kind_of, text_of, token_of}
 
 -- x is the kind that was read
 pub is_it : (t : Token) (k : ℕ) {x : ℕ} → x ≡ t.kind → x ≡ k → true ≡ is k t
@@ -43,19 +41,6 @@ pub ruleset kinds = (is_it, kind_fails, kind_holds, kind_stops)
 pub ruleset token_tests = (tests, kinds)
 
 -- ---- operators
-
--- a Punct with the text s, which is t between its edge spaces
-module _ (tape area : Text) (w : ℕ) {k : ℕ} (ek : k ≡ kind_of w) (hk : k ≡ Punct) {s t : Text} (es : s ≡ text_of tape area w) (et : t ≡ trim s) where
-  pub operator_tight : length s ≤ length t → false ≡ is_operator (token_of tape area w)
-  unfolding is_operator
-  operator_tight h = rw (← es, ← et) (kind_holds _ _ ek hk (and_here _ (sym (le-ltb _ _ h)) refl))
-
-  pub operator_loose : length t < length s → {b : Bool} → b ≡ (t ≟ bytes ",") → not b ≡ is_operator (token_of tape area w)
-  unfolding is_operator
-  operator_loose h e = rw (← es, ← et) (kind_holds _ _ ek hk (and_second (sym (lt-ltb _ _ h)) refl (not_same e)))
-
--- what `is_operator` leaves
-pub ruleset operators = (kinds, operator_tight, operator_loose)
 
 -- an expression of several tokens, and one of fewer
 pub operator_many : (ts : List Token) {b : Bool} → 1 < length ts → b ≡ any is_operator ts → b ≡ is_operator_expr ts

@@ -6,14 +6,11 @@ use mathlib.Core.Path.{◌≡◌, refl, sym}
 use mathlib.Core.Bool.{Bool, true, false, true≢false}
 use mathlib.Core.List.{List, [], ◌∷◌}
 use lib.ListN.{length, get_or}
-use Rattle.reference.specs.Control.{not, ◌and◌, ◌or◌, let_some◌else◌then◌}
-use Rattle.reference.specs.Lists.{any}
+use Rattle.reference.specs.Control.{not, ◌and◌, let_some◌else◌then◌}
 use Rattle.reference.specs.Text.{Text, bytes, starts_with}
-use Rattle.reference.specs.Listing.{is, Punct}
 use Rattle.reference.specs.Shapes.{writes, is_written}
 use Rattle.reference.proofs.Cases.{both, same_number}
-use Rattle.text.specs.Punctuation.{updates}
-use Rattle.lines.specs.Words.{token_of, tokens_of, text_of}
+use Rattle.lines.specs.Words.{token_of, tokens_of}
 use Rattle.lines.proofs.shapes.Places.{get_at, get_past}
 
 -- a text that begins ` = ` does not begin ` ==`: its third byte
@@ -32,17 +29,13 @@ without_equal true true f = absurd (f refl refl)
 without_equal true false f = refl
 without_equal false c f = refl
 
-assign-only : (s : Text) → (starts_with s (bytes " = ") and not (starts_with s (bytes " =="))) ≡ starts_with s (bytes " = ")
+pub assign-only : (s : Text) → (starts_with s (bytes " = ") and not (starts_with s (bytes " =="))) ≡ starts_with s (bytes " = ")
 assign-only s = without_equal (starts_with s (bytes " = ")) (starts_with s (bytes " ==")) (not_equal s)
 
 module _ (tape area : Text) (ws : List ℕ) (k : ℕ) where
-  pub written_is : k + 1 < length ws
-      → is_written (tokens_of tape area ws) k
-      ≡ (is Punct (token_of tape area (get_or ws (k + 1) 0))
-      and (starts_with (text_of tape area (get_or ws (k + 1) 0)) (bytes " = ") or any (starts_with (text_of tape area (get_or ws (k + 1) 0))) updates))
-  unfolding is_written writes let_some◌else◌then◌
-  written_is h =
-      rw (add-one, get_at (token_of tape area) ws (suc k) (rw add-one at h), assign-only (text_of tape area (get_or ws (suc k) 0)))
+  pub written_is : k + 1 < length ws → is_written (tokens_of tape area ws) k ≡ writes (token_of tape area (get_or ws (k + 1) 0))
+  unfolding is_written let_some◌else◌then◌
+  written_is h = rw (add-one, get_at (token_of tape area) ws (suc k) (rw add-one at h))
 
   pub written_past : length ws ≤ k + 1 → false ≡ is_written (tokens_of tape area ws) k
   unfolding is_written let_some◌else◌then◌

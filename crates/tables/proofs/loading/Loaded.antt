@@ -3,9 +3,9 @@
 use Prim.Native.Nat.{ℕ, suc, ◌+◌, ◌≤◌, ◌<◌}
 use native.Mathlib.Omega.{arith}
 use mathlib.Core.Path.{◌≡◌, sym, ap, ◌∙◌}
-use mathlib.Core.List.{List, [], ◌∷◌, ◌++◌, map}
-use lib.ListN.{length, take, drop, get_or, length-map}
-use lib.Seq.{get_or-take, length-take-le, take_at}
+use mathlib.Core.List.{List, [], ◌∷◌, map}
+use lib.ListN.{length, take, get_or, length-map}
+use lib.Seq.{get_or-take, length-take-le}
 use Rattle.reference.specs.Text.{Text}
 use Rattle.reference.specs.Questions.{Passed}
 use Rattle.reference.proofs.Reading.{passed_inj, let_is}
@@ -33,15 +33,13 @@ holds_recoded : {tape ws us : List ℕ} → Recodes tape ws us → (area : Text)
 holds_recoded c area h = record { at = λ k b. (let e = c.long in (c.at k (omega arith)).points area (h.at k (omega arith))) }
 
 -- the same listing, where the words in front were coded
-pub loaded_recoded : {tape tokens coded lines addresses : List ℕ} {r : Totals} → r.tokens ≤ length tokens → Loaded tape tokens lines addresses r
-    → Recodes tape (take r.tokens tokens) coded → Loaded tape (coded ++ drop r.tokens tokens) lines addresses r
-loaded_recoded {tokens = tokens} {coded = coded} {lines = lines} {addresses = addresses} {r = r} long l c =
-    let front : take r.tokens (coded ++ drop r.tokens tokens) ≡ coded =
-    take_at coded (drop r.tokens tokens) r.tokens (c.long ∙ length-take-le r.tokens tokens long) in
+pub loaded_recoded : {tape plain tokens lines addresses : List ℕ} {r : Totals} → Recodes tape (take r.tokens plain) (take r.tokens tokens)
+    → Loaded tape plain lines addresses r → Loaded tape tokens lines addresses r
+loaded_recoded {lines = lines} {addresses = addresses} {r = r} c l =
     record {
-      listing = λ area. rw front (l.listing area ∙ ap Passed (sym (listing_recoded c area addresses (take r.lines lines))));
-      listed = λ area. rw front (listed_recoded c (l.listed area));
-      holds = λ area. rw front (holds_recoded c area (l.holds area));
+      listing = λ area. l.listing area ∙ ap Passed (sym (listing_recoded c area addresses (take r.lines lines)));
+      listed = λ area. listed_recoded c (l.listed area);
+      holds = λ area. holds_recoded c area (l.holds area);
       totals = l.totals;
     }
 

@@ -40,7 +40,7 @@ use Rattle.lines.proofs.words.Lines.{word_origin}
 use Rattle.tape.specs.Commands.{command_in, size_of, ends}
 use Rattle.tape.specs.Questions.{Sizes, sizes_in, totals_of, counted, Counts}
 use Rattle.tables.specs.Tables.{marks_for, Loaded, LoadedMarks}
-use Rattle.tables.specs.Records.{blank, flag_of, pair_of, Holding, Marking, MarksRecorded, Recorded, line_after, place_after}
+use Rattle.tables.specs.Records.{blank, flag_of, pair_of, Holding, Marking, MarksRecorded, Recorded, records_after}
 use Rattle.tape.specs.declared.commands.Command.{Command}
 use Rattle.tape.specs.declared.commands.Command.TheVariants.{Addressed, Plain, Marked, Token, End}
 use Rattle.tape.specs.declared.questions.Totals.{Totals}
@@ -187,17 +187,14 @@ noted_none tape records = record { reads = reads_begin old tape; marks = record 
 
 module _ {tape : List ℕ} {records : List LineRecord} {at : ℕ} {t : Totals} (n : Noted tape records at t) {c : Command} (s : Stands tape at c)
     (passed : Passed (advanced old tape at (totals_of t) c) ≡ read_command tape at (totals_of t)) where
-  module _ (last : ℕ) (last_is : 0 < t.lines → last ≡ t.lines - 1) (few : t.lines ≤ 256) (long : 256 ≤ length records) (bytes : Bytes tape)
+  module _ (few : t.lines ≤ 256) (long : 256 ≤ length records) (bytes : Bytes tape)
       (begun : has_line (totals_of t) (command_in tape at c) ≡ true) where
-    abbrev after : Command → List LineRecord
-    after c = set records (place_after c t last) (line_after c t (get_or records last blank))
-
     kept : Tapes.Kept (record { at = at; totals = totals_of t; lines = n.reads.lines; marks = n.reads.marks })
     kept = Tapes.kept tape n.reads.reached
 
     -- the records with a command have the marks with it
     marks-after : (c : Command) → Counts c t → has_line (totals_of t) (command_in tape at c) ≡ true → R.Writable (command_in tape at c)
-        → MarksRecorded (add (command_in tape at c) n.reads.lines) (add_marks (command_in tape at c) n.reads.marks) (after c) (counted c (totals_of t)).lines
+        → MarksRecorded (add (command_in tape at c) n.reads.lines) (add_marks (command_in tape at c) n.reads.marks) (records_after c t records) (counted c (totals_of t)).lines
     unfolding add add_marks
     marks-after (Addressed address indent) low begun fits =
         line_noted n.marks (omega arith) kept.lines kept.marks (record { address = some address; indent = indent; tokens = [] }) _
@@ -208,16 +205,14 @@ module _ {tape : List ℕ} {records : List LineRecord} {at : ℕ} {t : Totals} (
         let b : (t.fresh ≡ true) × (leb low high ≡ true) = unfold has_line in both begun in
         let f = kept.fresh b.0 in
         let some_line : 0 < t.lines = omega (arith, kept.lines, ap length f.lines_are, length-append f.above (f.last ∷ [])) in
-        let e = last_is some_line in
-        marks-noted n.marks (record { lowest = low; highest = high }) last _ f (omega arith) kept.lines (omega arith) refl fits (leb-true low high b.1)
+        marks-noted n.marks (record { lowest = low; highest = high }) (t.lines - 1) _ f (omega arith) kept.lines (omega arith) refl fits (leb-true low high b.1)
     marks-after (Token kind count) counts begun fits =
         let some_line : 1 ≤ t.lines = unfold has_line in leb-true 1 t.lines begun in
-        let e = last_is some_line in
-        token-noted n.marks (with_token (token kind (take count (drop (at + 3) tape)))) (λ l. refl) _ last _ (omega arith) (omega arith) refl
-    marks-after End counts begun fits = rw (set-get_or records last blank) n.marks
+        token-noted n.marks (with_token (token kind (take count (drop (at + 3) tape)))) (λ l. refl) _ (t.lines - 1) _ (omega arith) (omega arith) refl
+    marks-after End counts begun fits = rw (set-get_or records (t.lines - 1) blank) n.marks
 
     pub noted_more : Counts c t → ends c ≡ false → {at' : ℕ} {t' : Totals} → at' ≡ at + size_of c → totals_of t' ≡ counted c (totals_of t)
-        → Noted tape (after c) at' t'
+        → Noted tape (records_after c t records) at' t'
     noted_more counts goes e₁ e₂ =
         let on = reads_on n.reads passed (ends_same old tape at c ∙ goes) in
         let fits : R.Writable (command_in tape at c) = rw s.same (R.writable (drop at tape) (bytes_drop at tape bytes) s.known s.inside) in
@@ -231,10 +226,11 @@ module _ {tape : List ℕ} {records : List LineRecord} {at : ℕ} {t : Totals} (
           marks = rw (ap (λ (q : Q.Totals). q.lines) e₂) (marks-after c counts begun fits);
         }
 
-  -- at FF they are the listing's
-  pub noted-ends : ends c ≡ true → (listing : Listing) → read tape ≡ Passed listing → MarksRecorded listing (marks_in tape) records t.lines
-  noted-ends ended listing e =
-      let over = ends_same old tape at c ∙ ended in
+-- at FF they are the listing's
+module _ {tape : List ℕ} {records : List LineRecord} {at : ℕ} {t : Totals} (n : Noted tape records at t) {a : Q.Advance}
+    (passed : Passed a ≡ read_command tape at (totals_of t)) (over : Q.is_end a.command ≡ true) where
+  pub noted-ends : (listing : Listing) → read tape ≡ Passed listing → MarksRecorded listing (marks_in tape) records t.lines
+  noted-ends listing e =
       let same : n.reads.lines ≡ listing = passed_inj (sym (read_passed n.reads passed over) ∙ e) in
       subst (λ (l : Listing). MarksRecorded l (marks_in tape) records t.lines) same
       (subst (λ (m : List Marks). MarksRecorded n.reads.lines m records t.lines) (sym (marks_passed n.reads passed over)) n.marks)

@@ -14,7 +14,7 @@ use Rattle.reference.specs.Questions.{is_command_by, ends_inside_by, Refused, Pa
 use Rattle.reference.proofs.Cases.{fails}
 use Rattle.reference.proofs.Commands.{FormBy, is_address, is_plain, is_marks, is_token, is_ending, form_of, is_form, address_form_by, plain_form_by, marks_form_by, token_form_by, end_form_by}
 use Rattle.reference.proofs.Reading.{ask-yes, ask_no, ask_passed, passed_inj, size_positive}
-use Rattle.tape.specs.Commands.{command_in, size_of_by, Sized, found_in_by, standing_by, Stood}
+use Rattle.tape.specs.Commands.{command_in, size_of_by, Sized, found_in_by, standing_by}
 use Rattle.tape.specs.declared.commands.Command.{Command}
 use Rattle.std.specs.Prelude.{Ok}
 
@@ -132,10 +132,6 @@ pub record StandsBy (form : TapeForm) (tape : List ℕ) (at : ℕ) (c : Command)
 abbrev pub Stands : List ℕ → ℕ → Command → Type 0
 Stands = StandsBy old
 
--- of the old form
-pub stood : (tape : List ℕ) (at : ℕ) → FormBy old (drop at tape) → command_size_by old (drop at tape) ≤ length (drop at tape) → Stood tape at
-stood tape at f h = record { what = _; stands = sym (whole old tape at f (rw length-drop at h)) }
-
 module _ (form : TapeForm) {tape : List ℕ} {at : ℕ} where
   pub stands_by : {c : Command} → found_in_by form tape at (Ok c) ≡ standing_by form tape at → StandsBy form tape at c
   unfolding standing_by ends_inside_by
@@ -150,6 +146,10 @@ module _ (form : TapeForm) {tape : List ℕ} {at : ℕ} where
       }
 
 module _ {form : TapeForm} {tape : List ℕ} {at : ℕ} where
+  -- and back
+  pub found_by : {c : Command} → StandsBy form tape at c → found_in_by form tape at (Ok c) ≡ standing_by form tape at
+  found_by s = (λ i. Passed (s.same i, s.size i)) ∙ whole form tape at s.known (rw length-drop at s.inside)
+
   pub stands-inside : {c : Command} → StandsBy form tape at c → (1 ≤ size_of_by form c) × (at + size_of_by form c ≤ length tape)
   stands-inside s =
       let positive = size_positive (drop at tape) s.known in

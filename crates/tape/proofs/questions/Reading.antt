@@ -4,13 +4,13 @@ use native.Mathlib.Omega.{arith}
 use mathlib.Core.Path.{◌≡◌, refl, sym, ap, ◌∙◌}
 use mathlib.Core.Bool.{true, false}
 use mathlib.Core.List.{List, []}
-use lib.ListN.{length, drop}
+use lib.ListN.{length}
 use Rattle.reference.specs.Control.{when◌then◌else◌}
 use Rattle.reference.specs.Listing.{Listing}
 use Rattle.reference.specs.Spans.{Marks}
 use Rattle.reference.specs.Tape.{TapeForm, old, header}
 use Rattle.reference.specs.Questions.{Totals, Answer, Refused, Passed, let_passed◌then◌, Advance, read_command_by, is_end, add, no_commands, read_by, add_marks, marks_in_by}
-use Rattle.reference.proofs.Reading.{refused_passed, by_passed, let_refused, let_is, PassesBy, command_passed_by, advances, reading_by, reading_step_by, ReachedBy, here, on, reading_of, AcceptsBy}
+use Rattle.reference.proofs.Reading.{refused_passed, by_passed, let_refused, let_is, command_passed_by, advances, reading_by, reading_step_by, ReachedBy, here, on, reading_of, AcceptsBy}
 use Rattle.reference.proofs.Reading.{accepted, marks-read}
 use Rattle.reference.proofs.Tapes.{kept}
 use Rattle.tape.specs.Questions.{Sizes, sizes_in, AcceptedTape, ReadOne}
@@ -71,14 +71,6 @@ module _ {form : TapeForm} {tape : List ℕ} {at : ℕ} {t : Totals} (r : ReadsB
 
   pub sizes_are : record { lines = t.lines; tokens = t.tokens; text = t.text } ≡ sizes_in r.lines
   sizes_are = let k = kept tape r.reached in λ i. record { lines = k.lines i; tokens = k.tokens i; text = k.text i }
-
--- on an accepted tape of the old form every command passes
-pub accepted-passes : {tape : List ℕ} {at : ℕ} {t : Totals} → ReadsBy old tape at t → AcceptedTape tape → PassesBy old (drop at tape) t
-accepted-passes {tape} {at} {t} r k =
-    by_passed (λ (x : Answer Listing). x ≡ Passed k.listing → PassesBy old (drop at tape) t)
-    (λ number place u e. absurd (refused_passed e))
-    (λ a known e. (command_passed_by old tape at t a known).0)
-    (sym (step_of r) ∙ k.reads)
 
 abbrev pub Reads : List ℕ → ℕ → Totals → Type 0
 Reads = ReadsBy old

@@ -17,25 +17,25 @@ returns-in_err-map_err c =
     let p = refused_early (rules_of a.rules) a.tape.now a.work_a.now a.work_b.now a.out.now c.asked.result c.asked.ensures h _ c.in_err-map_err.was in
     rw k (record { result_value = p.result_value; alike = p.alike; lent = p.lent; tells = p.tells })
 
-pub returns-in_err-check : goal.returns-in_err-check
-returns-in_err-check c =
-    let k : c.from_residual-in_err-check.result ≡ Err c.in_err-check.field-0.0 = search rules in
+pub returns-in_err-loaded : goal.returns-in_err-loaded
+returns-in_err-loaded c =
+    let k : c.from_residual-in_err-loaded.result ≡ Err c.in_err-loaded.field-0.0 = search rules in
     let d : c.asked.result ≡ Ok c.in_ok-map_err.field-0 = search rules in
     let a = c.args in
     let p =
     refused_on_tape (rules_of a.rules) a.tape.now a.work_a.now a.work_b.now a.out.now c.asked.ensures d
-    (refused_by a.tape.now (sym (ap checked c.in_err-check.was) ∙ c.check.ensures)) in
+    (refused_by a.tape.now (sym (ap checked c.in_err-loaded.was) ∙ c.loaded.ensures.asked)) in
     rw k (record { result_value = p.result_value; alike = p.alike; lent = p.lent; tells = p.tells })
 
 pub outside_profile-requires : goal.outside_profile-requires
-outside_profile-requires c = accepted_by c.args.tape.now (sym (ap checked c.in_ok-check.was) ∙ c.check.ensures)
+outside_profile-requires c = c.in_ok-loaded.ensures.loaded.0
 
 pub finish-requires : goal.finish-requires
 finish-requires c =
     let d : c.asked.result ≡ Ok c.in_ok-map_err.field-0 = search rules in
     let a = c.args in
     cautionable (rules_of a.rules) a.tape.now a.work_a.now a.work_b.now a.out.now c.asked.ensures d
-    (accepted_by a.tape.now (sym (ap checked c.in_ok-check.was) ∙ c.check.ensures))
+    c.in_ok-loaded.ensures.loaded
 
 pub returns-in-Some : goal.returns-in-Some
 returns-in-Some c =
@@ -43,7 +43,7 @@ returns-in-Some c =
     let a = c.args in
     let p =
     refused_now (rules_of a.rules) a.tape.now a.work_a.now a.work_b.now a.out.now c.asked.ensures d
-    (accepted_by a.tape.now (sym (ap checked c.in_ok-check.was) ∙ c.check.ensures)) c.outside_profile.result c.outside_profile.ensures _ c.in-Some.is in
+    (accepted_by a.tape.now (sym (ap checked c.in_ok-loaded.was) ∙ c.loaded.ensures.asked)) c.outside_profile.result c.outside_profile.ensures _ c.in-Some.is in
     rw c.at.ensures (record { result_value = p.result_value; alike = p.alike; lent = p.lent; tells = p.tells })
 
 pub returns-in-None : goal.returns-in-None
@@ -52,6 +52,6 @@ returns-in-None c =
     let a = c.args in
     let p =
     finished-now (rules_of a.rules) a.tape.now a.work_a.now a.work_b.now a.out.now c.asked.ensures d
-    (accepted_by a.tape.now (sym (ap checked c.in_ok-check.was) ∙ c.check.ensures)) c.outside_profile.result c.outside_profile.ensures
+    (accepted_by a.tape.now (sym (ap checked c.in_ok-loaded.was) ∙ c.loaded.ensures.asked)) c.outside_profile.result c.outside_profile.ensures
     c.in-None.is c.finish.ensures in
     record { result_value = p.result_value; alike = p.alike; lent = p.lent; tells = p.tells }

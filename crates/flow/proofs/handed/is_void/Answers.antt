@@ -23,4 +23,4 @@ returns-then-is_empty-2 c =
 pub returns : goal.returns
 returns c =
     let h = c.args.listing.now in
-    void_first (bare_listing h) c.line_of-head.result.now (token_of h.texts) (ap (tokens_of h.texts) c.line_of-head.ensures ∙ listed_tokens h 0 (search rules)) (search rules) c.is_kw.ensures
+    void_first (bare_listing h) c.line_of-head.result.now (token_of h.texts) (ap (tokens_of h.texts) c.line_of-head.ensures ∙ listed_tokens h 0 (search rules)) (search rules) c.is_void_word.ensures

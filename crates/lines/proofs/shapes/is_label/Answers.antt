@@ -12,8 +12,8 @@ returns-in_default c = let a = c.args in label-not _ _ a.line.now (λ e. let h =
 pub returns-in_default-2 : goal.returns-in_default-2
 returns-in_default-2 c = let a = c.args in label-not _ _ a.line.now (λ e. let h = c.in_default.len_at_least in omega arith)
 
-pub returns-then-same : goal.returns-then-same
-returns-then-same c = let a = c.args in rw (label_two _ _ a.line.now (search rules)) (search (rules, tests, kinds, ← c.text.ensures))
+pub returns-then-has : goal.returns-then-has
+returns-then-has c = let a = c.args in rw (label_two _ _ a.line.now (search rules)) (search (rules, tests, kinds))
 
-pub returns-else-same : goal.returns-else-same
-returns-else-same c = let a = c.args in rw (label_two _ _ a.line.now (search rules)) (search (rules, tests, ← c.text.ensures))
+pub returns-else-has : goal.returns-else-has
+returns-else-has c = let a = c.args in rw (label_two _ _ a.line.now (search rules)) (search (rules, tests))

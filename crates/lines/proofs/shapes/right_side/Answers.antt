@@ -6,11 +6,11 @@ use Rattle.lines.proofs.shapes.right_side.Goals as goal
 pub returns-then-n-first : goal.returns-then-n-first
 returns-then-n-first c = search (rules, sides)
 
-pub text-requires : goal.text-requires
-text-requires c = search (rules, sides)
+pub has-requires : goal.has-requires
+has-requires c = search (rules, sides)
 
-pub returns-then-not-ends : goal.returns-then-not-ends
-returns-then-not-ends c = search (rules, sides)
+pub returns-then-not-has : goal.returns-then-not-has
+returns-then-not-has c = search (rules, sides)
 
 pub returns-then-len-ne1 : goal.returns-then-len-ne1
 returns-then-len-ne1 c = search (rules, sides)

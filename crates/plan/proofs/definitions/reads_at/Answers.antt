@@ -1,17 +1,17 @@
 -- `plan::definitions::reads_at` meets its contract. Assumes nothing.
-use Rattle.std.proofs.Common.{rules}
+use Rattle.std.proofs.Common.{rules, arith}
 use Rattle.lines.proofs.shapes.Right.{expr-points, expr-below}
 use Rattle.plan.proofs.Defining.{before-points, reading}
 use Rattle.plan.proofs.definitions.reads_at.Goals as goal
 
-pub text-requires : goal.text-requires
-text-requires c = search (rules, expr-points)
+pub has-requires : goal.has-requires
+has-requires c = (search (rules, expr-points), omega arith)
 
-pub text-requires-in-1 : goal.text-requires-in-1
-text-requires-in-1 c = search (rules, expr-points)
+pub has-requires-in-1 : goal.has-requires-in-1
+has-requires-in-1 c = (search (rules, expr-points), omega arith)
 
-pub text-requires-else-k-eq0 : goal.text-requires-else-k-eq0
-text-requires-else-k-eq0 c = search (rules, before-points)
+pub has-requires-else-k-eq0 : goal.has-requires-else-k-eq0
+has-requires-else-k-eq0 c = (search (rules, before-points), omega arith)
 
 pub returns-in-3 : goal.returns-in-3
 returns-in-3 c = search (rules, reading)

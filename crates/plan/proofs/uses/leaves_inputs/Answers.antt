@@ -22,8 +22,8 @@ returns-in_default-name_of c = search (rules, leaves_unnamed)
 pub bounds-line-0-then-d : goal.bounds-line-0-then-d
 bounds-line-0-then-d c = search (rules, assigning)
 
-pub text-requires : goal.text-requires
-text-requires c = search (rules, assigning)
+pub has-requires : goal.has-requires
+has-requires c = (search (rules, assigning), omega arith)
 
 pub returns-after-d : goal.returns-after-d
 unfolding not ◌and◌

@@ -1,12 +1,16 @@
--- What the loop of `tables::loading::fill` keeps true: the last line is in the table, and the records are those of the commands so far. What falls at
--- each turn: the bytes that are left.
-use Prim.Native.Nat.{◌-◌, ◌<◌}
+-- What the loop of `tables::loading::fill` keeps true: the reader holds the tape, the reading has come to its offset, the records and the words are those of the commands so far, and
+-- the memo is right. What falls at each turn: the bytes that are left.
+use Prim.Native.Nat.{◌-◌}
+use mathlib.Core.Path.{◌≡◌}
 use lib.ListN.{length}
-use Rattle.tables.proofs.loading.Turns.{Going}
+use Rattle.tables.specs.Memo.{Memory}
+use Rattle.tables.specs.Records.{state_of}
+use Rattle.tables.proofs.loading.Turns.{Loading}
 use Rattle.tables.proofs.loading.fill.Given as goal
 
-abbrev pub invariant-loop-step : goal.invariant-loop-step
-invariant-loop-step l = (l.state.line < 256) × Going l.tape l.tokens l.lines l.state
+abbrev pub invariant-loop-next : goal.invariant-loop-next
+invariant-loop-next l =
+    (l.reader.tape.now ≡ l.tape) × Loading l.reader.tape.now l.tokens l.records (state_of l.reader l.totals) × Memory l.keys l.words
 
-abbrev pub decreases-loop-step : goal.decreases-loop-step
-decreases-loop-step l = length l.tape - l.state.at
+abbrev pub decreases-loop-next : goal.decreases-loop-next
+decreases-loop-next l = length l.tape - l.reader.at

@@ -1,23 +1,15 @@
--- `tables::loading::load` meets its contract. Assumes nothing.
+-- `tables::loading::load` meets its contract: the tables hold the records that the tape filled. Assumes nothing.
 use Prim.Native.Nat.{◌≤◌}
 use native.Mathlib.Omega.{arith}
 use lib.ListN.{length}
-use lib.Seq.{length-take-le}
-use mathlib.Core.Path.{sym}
-use Rattle.tables.proofs.loading.Loaded.{loaded-limits, loaded_recoded}
+use Rattle.tables.proofs.loading.Records.{holding-front}
+use Rattle.tables.proofs.loading.Marks.{marking-front, loaded-marks}
 use Rattle.tables.proofs.loading.load.Goals as goal
 
-pub slice_bounds-code_words-end : goal.slice_bounds-code_words-end
-slice_bounds-code_words-end c = omega (arith, loaded-limits c.tabled-totals.ensures.0, c.tabled-totals.auto.tokens, c.requires.in_bounds.0)
-
-pub slice_bounds-code_words-end-2 : goal.slice_bounds-code_words-end-2
-slice_bounds-code_words-end-2 c =
-    let long : c.tabled-totals.result.tokens ≤ length c.tabled-totals.new.tokens =
-    omega (arith, loaded-limits c.tabled-totals.ensures.0, c.tabled-totals.auto.tokens, c.requires.in_bounds.0) in
-    sym (length-take-le c.tabled-totals.result.tokens c.tabled-totals.new.tokens long)
-
-pub returns : goal.returns
-returns c =
-    let long : c.tabled-totals.result.tokens ≤ length c.tabled-totals.new.tokens =
-    omega (arith, loaded-limits c.tabled-totals.ensures.0, c.tabled-totals.auto.tokens, c.requires.in_bounds.0) in
-    (loaded_recoded long c.tabled-totals.ensures.0 c.code_words.ensures, c.tabled-totals.ensures.1)
+pub returns-clause-loaded : goal.returns-clause-loaded
+returns-clause-loaded c = let d = c.in_ok-totals.ensures.recorded in
+    let records = c.fill.new.records in
+    let few : c.in_ok-totals.totals.lines ≤ length records = omega (arith, d.few, c.fill.auto.records, c.requires.4) in
+    let holding = holding-front records c.in_ok-totals.totals.lines few c.spread.ensures.0 in
+    let marking = marking-front records c.in_ok-totals.totals.lines few c.spread.ensures.1 in
+    (d.loaded _ _ holding, loaded-marks d holding marking)

@@ -7,7 +7,7 @@ pub put_records-requires : goal.put_records-requires
 put_records-requires c = let a = c.args in
     let t = a.listing.now.texts in
     gathered_writes t.tape.now t.area.now a.listing.now.tokens.now a.addresses.now (lows_of a.marks.now) (highs_of a.marks.now) a.listing.now.lines.now _ c.gather.ensures
-    a.out.now c.requires.0 c.requires.4
+    a.out.now c.requires.0 c.requires.5
 
 pub returns : goal.returns
 returns c = let a = c.args in

@@ -12,7 +12,7 @@ pub put_lines-requires : goal.put_lines-requires
 put_lines-requires c = let g = c.args.listing.now in
     let room = write-room g.texts.tape.now g.texts.area.now g.tokens.now c.args.addresses.now (lows_of c.args.marks.now) (highs_of c.args.marks.now) g.lines.now c.requires.lines_in_bounds in
     let b = c.requires.in_bounds in
-    (c.requires.listed.0, c.requires.listed.1, b.0, b.1, omega (arith, room, ap length c.new-out.ensures.same_bytes, c.new-out.ensures.from))
+    (c.requires.listed.0, c.requires.listed.1, b.0, b.1, b.2, omega (arith, room, ap length c.new-out.ensures.same_bytes, c.new-out.ensures.from))
 
 pub put_end-requires : goal.put_end-requires
 put_end-requires c = let g = c.args.listing.now in

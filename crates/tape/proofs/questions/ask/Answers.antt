@@ -17,14 +17,14 @@ returns-else-marks_follow c = rw (c.in-Marked.is, c.at.ensures) (marks_misplaced
 
 pub returns-in-Token : goal.returns-in-Token
 returns-in-Token c = let a = c.args in
-    rw c.in-Token.is (c.ask_token.ensures ∙ text_asked a.tape.now a.at (totals_of a.totals) c.in-Token.kind c.in-Token.count c.token_text.ensures)
+    rw c.in-Token.is (c.ask_token.ensures ∙ text_asked a.reader.tape.now a.reader.at (totals_of a.totals) c.in-Token.kind c.in-Token.count c.token.ensures)
 
-pub returns-then-tape-at-eq1 : goal.returns-then-tape-at-eq1
-returns-then-tape-at-eq1 c = let a = c.args in
-    rw c.in-End.is (end_over a.tape.now a.at (totals_of a.totals) c.if-tape-at-eq1.true)
+pub returns-then-reader-at-eq1 : goal.returns-then-reader-at-eq1
+returns-then-reader-at-eq1 c = let a = c.args in
+    rw c.in-End.is (end_over a.reader.tape.now a.reader.at (totals_of a.totals) c.if-reader-at-eq1.true)
 
-pub returns-else-tape-at-eq1 : goal.returns-else-tape-at-eq1
-returns-else-tape-at-eq1 c = let a = c.args in
+pub returns-else-reader-at-eq1 : goal.returns-else-reader-at-eq1
+returns-else-reader-at-eq1 c = let a = c.args in
     let e = c.in-End.is in
     let p = rw e at c.requires in
-    rw (e, c.at-else-tape-at-eq1.ensures) (end_follows a.tape.now a.at (totals_of a.totals) p c.if-tape-at-eq1.false)
+    rw (e, c.at-else-reader-at-eq1.ensures) (end_follows a.reader.tape.now a.reader.at (totals_of a.totals) p c.if-reader-at-eq1.false)

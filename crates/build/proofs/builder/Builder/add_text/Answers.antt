@@ -14,10 +14,10 @@ returns-clause-appends c =
     let p = c.requires in
     let pasted = put_mid-paste b.size.text (b.size.text + length s - b.size.text) b.area.now c.copy_from_slice.new.self
     s (length s) c.copy_from_slice.ensures.after (omega arith) refl in
-    λ tape. copied tape b.area.now b.tokens.now b.size c.args.kind s p.0 p.1 pasted c.token_word.ensures
+    λ tape. copied tape b.area.now b.tokens.now b.size c.args.kind s p.0 p.1 pasted c.area_word.ensures
 
 pub returns-clause-in_area : goal.returns-clause-in_area
 returns-clause-in_area c =
     let b = c.args.self.now in
     let p = c.requires in
-    place_at b.tokens.now b.size.tokens c.args.kind b.size.text (length c.args.s.now) (omega (arith, p.1.words_fit)) p.0 (omega (arith, p.1.short)) c.token_word.ensures
+    place_at b.tokens.now b.size.tokens c.args.kind b.size.text c.args.s.now (omega (arith, p.1.words_fit)) p.0 (omega (arith, p.1.short)) (omega (arith, p.1.short)) c.area_word.ensures

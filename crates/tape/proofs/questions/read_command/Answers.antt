@@ -1,9 +1,9 @@
--- `tape::questions::step` meets its contract. Assumes nothing.
+-- `tape::questions::read_command` meets its contract. Assumes nothing.
 use native.Mathlib.Omega.{arith}
 use Rattle.std.proofs.lemmas.Result.{err_from_is_err_and}
 use Rattle.tape.proofs.commands.Standing.{stands_by, stands-inside}
 use Rattle.tape.proofs.questions.Asking.{looked_inside, stops, refuses, all_yes, passes, within-counts, promised}
-use Rattle.tape.proofs.questions.step.Goals as goal
+use Rattle.tape.proofs.questions.read_command.Goals as goal
 
 pub returns-in_err-command-clause-result_value : goal.returns-in_err-command-clause-result_value
 returns-in_err-command-clause-result_value g c = let p = err_from_is_err_and c.from_residual.result c.from_residual.ensures.1 in
