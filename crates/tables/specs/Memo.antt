@@ -52,8 +52,8 @@ key_of rest = when leb 8 (length rest) and leb (text_length rest) 5 then some (f
 abbrev pub EMPTY : ℕ
 EMPTY = 18446744073709551615
 
--- The key's bytes are the command of a short token. The word is what the token's would be at offset 0; moved, it is the token's wherever that
--- stands.
+-- The key's bytes are the command of a short token. The word is what the token's would be at offset 0; moved, it is right wherever the
+-- token stands.
 pub record Remembered (key w : ℕ) : Type 0 where
   pub token : Token
   pub low : token.kind < 8

@@ -43,8 +43,8 @@ fn key_at(tape: &[u8], at: usize) -> Option<u64>
     Some(v & mask)
 }
 
-// The place of a key: the upper bits of a product that mixes all its bits. (Any factor is right. Of 30,000,000 that were tried, this one
-// sends the fewest of the common short tokens, as registers and Puncts, to one place.)
+// The place of a key: the upper bits of a product that mixes all its bits. (Any factor is right. Of 30,000,000 tried on a list of common
+// short tokens, as registers and Puncts, this one sends the fewest pairs to one place, each pair weighted by how common its tokens are.)
 fn place_of(key: u64) -> usize
     ensures { result < 512 }
 {
