@@ -84,10 +84,11 @@ fn fold_value(texts: &Texts<'_>, before: &[u64], rest: &[u64], edition: u8) -> O
     let [left, operator, right, after @ ..] = rest else {
         return None;
     };
+    let sum = sum_of(texts, *left, *operator, *right, edition)?;
     if !delimited_before(texts, before) || !delimited_after(texts, after) {
         return None;
     }
-    sum_of(texts, *left, *operator, *right, edition)
+    Some(sum)
 }
 
 // How far the folding of a line has come: its first `kept` words are done, those from `next` on are still to be seen; `text` is the text in
