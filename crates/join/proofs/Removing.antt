@@ -1,12 +1,13 @@
 -- A word removed in place: the later ones move up. Assumes nothing.
 use Prim.Native.Nat.{ℕ, zero, suc, ◌+◌, ◌-◌, ◌<◌}
 use native.Mathlib.Omega.{arith}
-use native.Mathlib.Nat.{not-suc-le-zero, le_of_suc-le-suc}
+use native.Mathlib.Nat.{not-suc-le-zero, le_of_suc-le-suc, zero-add}
 use native.Mathlib.Numerals.{add-one}
 use mathlib.Core.Path.{◌≡◌, refl, sym, ap, ◌∙◌}
-use mathlib.Core.List.{List, [], ◌∷◌, ◌++◌, map}
-use lib.ListN.{length, take, drop}
-use lib.Seq.{take_at}
+use mathlib.Core.List.{List, [], ◌∷◌, ◌++◌, map, append-nil, append_assoc}
+use lib.ListN.{length, take, drop, length-drop, drop_of_length-le}
+use lib.Seq.{take_at, drop-drop}
+use borrow.Rule.Slice.PartMut.{put_mid}
 use Rattle.std.specs.List.{copy_within}
 use Rattle.std.proofs.lemmas.List.{take_rest}
 use Rattle.reference.specs.Lists.{remove}
@@ -27,12 +28,20 @@ map-remove f i [] = refl
 map-remove f zero (x ∷ xs) = refl
 map-remove {B = B} f (suc i) (x ∷ xs) = ap {B = List B} (λ r. f x ∷ r) (map-remove f i xs)
 
+-- all words but the first moved up by one: the last place keeps what it had
+moved : (ws : List ℕ) → copy_within ws 1 (length ws) 0 ≡ drop 1 ws ++ drop (length ws - 1) ws
+moved ws = rw (take_rest, zero-add) refl
+
 module _ (xs : List ℕ) (i : ℕ) (h : i < length xs) where
-  -- the later words moved up by one: the last place keeps what it had
-  pub removed : {ws : List ℕ} → ws ≡ copy_within xs (i + 1) (length xs) i → ws ≡ remove i xs ++ drop (length xs - 1) xs
-  removed e =
-      let last : i + (length xs - (i + 1)) ≡ length xs - 1 = omega arith in
-      e ∙ rw (last, take_rest, add-one) (ap (λ (r : List ℕ). r ++ drop (length xs - 1) xs) (sym (remove_split i xs)))
+  -- the later words moved up by one
+  pub removed : {ws : List ℕ} → let part = take (length xs - i) (drop i xs) in ws ≡ copy_within part 1 (length part) 0
+      → put_mid i (length xs - i) xs ws ≡ remove i xs ++ drop (length xs - 1) xs
+  removed {ws} e =
+      let last : i + (length (drop i xs) - 1) ≡ length xs - 1 = omega (arith, length-drop i xs) in
+      let behind : drop (length xs - i) (drop i xs) ≡ [] = drop_of_length-le (drop i xs) (omega (arith, length-drop i xs)) in
+      let here : ws ≡ drop (suc i) xs ++ drop (length xs - 1) xs =
+      e ∙ ap (λ (l : List ℕ). copy_within l 1 (length l) 0) (take_rest xs i) ∙ moved (drop i xs) ∙ rw (drop-drop 1 i xs, drop-drop (length (drop i xs) - 1) i xs, last, add-one) refl in
+      rw (behind, append-nil ws, here, remove_split) (sym (append_assoc (take i xs) (drop (suc i) xs) (drop (length xs - 1) xs)))
 
   -- what is in use then
   pub remove-used : {ws : List ℕ} → ws ≡ remove i xs ++ drop (length xs - 1) xs → take (length xs - 1) ws ≡ remove i xs

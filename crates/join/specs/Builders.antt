@@ -2,12 +2,15 @@
 -- the second set are lent: each name means what the definition of that name says. Assumes nothing.
 use Rattle.std.specs.Prelude.{ℕ, List}
 use Rattle.reference.specs.Rules.{Rules}
+use Rattle.lines.specs.declared.marks.Marks.{Marks}
 use Rattle.lines.specs.declared.texts.Texts.{Texts}
+use Rattle.lines.specs.Marks.{lows_of, highs_of}
 use Rattle.plan.specs.declared.plans.Join.{Join}
 use Rattle.lines.specs.declared.texts.Size.{Size}
 use Rattle.build.specs.declared.builder.Builder.{Builder}
 use Rattle.join.specs.Building as building
 use Rattle.join.specs.Patching as patching
+use Rattle.join.specs.Carrying as carrying
 
 -- ---- a line
 
@@ -44,3 +47,9 @@ Patching rules t words lines j from k b lines' =
 abbrev pub Patched : Rules → Texts → List ℕ → List ℕ → Join → Size → Builder → List ℕ → Type 0
 Patched rules t words lines j from b lines' =
     patching.Patched rules t.tape.now t.area.now words lines j from b.area.now b.tokens.now lines' b.size
+
+-- ---- the marks
+
+abbrev pub Carried : Rules → Texts → List ℕ → List ℕ → Join → List Marks → List Marks → Type 0
+Carried rules t words lines j marks marks' =
+    carrying.Carried rules t.tape.now t.area.now words lines j (lows_of marks) (highs_of marks) (lows_of marks') (highs_of marks')

@@ -17,7 +17,6 @@ ghost use Rattle.join.specs.Contents.{contents, bare_now};
 ghost use Rattle.join.specs.Workspaces.{SameLent, Current, Plannable};
 
 use crate::apply::apply;
-use crate::marks::carry_marks;
 use crate::workspace::Workspace;
 use ground::rules::Rules;
 use life::LabelledListing;
@@ -106,7 +105,6 @@ pub fn try_at(
 {
     let j = plan_at(tape, room, labels, slots, i, size, rules)?;
     let own = raise_before(tape, room, raising, j, size, rules);
-    carry_marks(tape, room, j, rules, size);
     let after = apply(tape, room, j, rules, size);
     raise_after(tape, room, raising, j.line, own, after);
     Some(after)

@@ -19,7 +19,7 @@ use plan::changing::is_changed;
 use plan::plans::Join;
 
 // Line `at` of the input takes in other marks.
-fn take_in(at: usize, other: Marks, marks: &mut [Marks])
+pub(crate) fn take_in(at: usize, other: Marks, marks: &mut [Marks])
     requires { at < length marks.old }
     ensures lows_after { lows_of marks.new ≡ set (lows_of marks.old) at (min (get_or (lows_of marks.old) at 0) other.low) }
     ensures highs_after { highs_of marks.new ≡ set (highs_of marks.old) at (max (get_or (highs_of marks.old) at 0) other.high) }

@@ -179,7 +179,8 @@ abbrev pub Worded : List ℕ → ℕ → Command → Totals → List ℕ → Lis
 Worded tape at (Addressed address indent) t tokens tokens' = tokens' ≡ tokens
 Worded tape at (Plain indent) t tokens tokens' = tokens' ≡ tokens
 Worded tape at (Marked low high) t tokens tokens' = tokens' ≡ tokens
-Worded tape at (Token kind count) t tokens tokens' = (w : ℕ) × Recoded tape (word kind 0 (at + 3) count) w × (tokens' ≡ set tokens t.tokens w)
+Worded tape at (Token kind count) t tokens tokens' =
+    (w : ℕ) × Recoded tape (word kind 0 (at + 3) count) w × (tokens' ≡ set tokens t.tokens w)
 Worded tape at End t tokens tokens' = tokens' ≡ tokens
 
 -- ---- the next command
@@ -204,8 +205,8 @@ abbrev pub advance_to : List ℕ → ℕ → Command → LoadState → Advance
 advance_to tape at c s = record { command = command_in tape at c; next = s.at; totals = totals_of s.totals }
 
 -- the command at the offset passed the questions and was taken
-pub record StepLoads (tape : List ℕ) (s : LoadState) (tokens : List ℕ) (records : List LineRecord) (tokens' : List ℕ) (records' : List LineRecord)
-    (s' : LoadState) : Type 0 where
+pub record StepLoads (tape : List ℕ) (s : LoadState) (tokens : List ℕ) (records : List LineRecord) (tokens' : List ℕ)
+    (records' : List LineRecord) (s' : LoadState) : Type 0 where
   pub command : Command
   pub stands : found_in tape s.at (Ok command) ≡ standing tape s.at
   pub passed : ReadOne old tape s.at (totals_of s.totals) false (advance_to tape s.at command s')
@@ -218,8 +219,8 @@ pub record Unloaded (tokens : List ℕ) (records : List LineRecord) (tokens' : L
   pub records_are : records' ≡ records
 
 -- FF stands at the offset, and passed the questions
-pub record LoadEnds (tape : List ℕ) (s : LoadState) (tokens : List ℕ) (records : List LineRecord) (tokens' : List ℕ) (records' : List LineRecord)
-    : Type 0 where
+pub record LoadEnds (tape : List ℕ) (s : LoadState) (tokens : List ℕ) (records : List LineRecord) (tokens' : List ℕ)
+    (records' : List LineRecord) : Type 0 where
   pub last : Advance
   pub passed : ReadOne old tape s.at (totals_of s.totals) true last
   pub same : Unloaded tokens records tokens' records'

@@ -1,5 +1,5 @@
-// The listing of an accepted tape, in tables: a word for each token and each line, and by the number of the line its address and its marks.
-// All texts are parts of the tape. The lines are laid as records first; the line words are made of them.
+// The questions of a tape and its listing, in tables, in one pass: a word for each token and each line, and by the number of the line its
+// address and its marks. All texts are parts of the tape. The lines are laid as records first; the line words are made of them.
 // Kept: the four tables stay parameters of their own, so that a caller may own them in any way: crate clean has a struct of the four, whose
 // `load` is this one, and lends its fields apart afterwards. A struct here would ask of callers that they have just that one.
 // Kept: addresses and marks are two tables, not one of pairs, which would be no plainer: the rounds join the marks and never see an
@@ -24,7 +24,7 @@ use tape::commands::{Command, size_of};
 use tape::questions::{NONE, Totals, count_in, read_command};
 use tape::reader::TapeReader;
 
-// Where the loading stands: the offset of the next command, and what was read before it.
+// Where the loading goes on: the offset of the next command, and what was read before it.
 #[derive(Clone, Copy, Debug, PartialEq, Eq)]
 pub struct LoadState {
     pub at: usize,
@@ -136,7 +136,7 @@ fn add_token(
 
 // ---- the next command
 
-// Takes the command at the offset if it is a token that the memo knows and one more such fits the limits: it passes all questions.
+// Takes the command at the reader's offset if it is a token that the memo knows and one more fits the limits: it passes all questions.
 // (24,571 bytes and the five of the longest are 24,576.)
 fn load_known(
     reader: TapeReader<'_>,
@@ -165,7 +165,7 @@ fn load_known(
     })
 }
 
-// Asks the questions of the command at the offset, and takes it; at FF there is none to take.
+// Asks the questions of the command at the reader's offset, and takes it; at FF there is none to take.
 fn load_asked(
     reader: TapeReader<'_>,
     totals: Totals,
@@ -198,7 +198,7 @@ fn load_asked(
     }))
 }
 
-// Takes the command at the offset, or says which question refuses it.
+// Takes the command at the reader's offset, or says which question refuses it.
 fn load_next(
     reader: TapeReader<'_>,
     totals: Totals,
@@ -220,7 +220,8 @@ fn load_next(
 // ---- the whole tape
 
 // Asks the questions of a tape and loads its lines: a record for each line and a word for each token.
-// Kept: document 01 names the form, "line records are lent as a slice of records" to a few thin functions.
+// Kept: document 01 names the forms. "A tape reader holds the tape and its offset": one moves from the first command to the last. "Line
+// records are lent as a slice of records" to a few thin functions.
 pub fn fill(tape: &[u8], tokens: &mut [u64], records: &mut [LineRecord]) -> Result<Totals, Refusal>
     requires { (1024 ≤ length tokens.old) × (256 ≤ length records.old) }
     ensures asked { checked result ≡ (let_passed (read tape.now) then λ lines. Passed (sizes_in lines)) }

@@ -1,5 +1,5 @@
-// A tape reader holds the tape and its offset. Commands and texts are read through it: the questions and the loading move one from the first
-// command to the last, `command_at` and `token_text` make one at an offset.
+// A tape reader holds the tape and its offset. Commands and texts are read through it: the questions and the loading move one from the
+// first command to the last, `command_at` and `token_text` make one at an offset.
 // Kept: document 01 names the form, "A tape reader holds the tape and its offset": a small struct, and few thin functions over those on a
 // plain slice and numbers. So `next` and `token` promise what `found_at` and `text_at` do.
 ghost use Rattle.std.specs.Prelude.{◌≡◌, ◌+◌, ◌≤◌, length, take, drop};
