@@ -10,7 +10,8 @@ use Rattle.reference.specs.Text.{Text}
 use Rattle.reference.specs.Listing.{Token, token}
 use Rattle.laws.proofs.Parts.{drop-take}
 use Rattle.lines.specs.Words.{kind_of, buffer_of, start_of, len_of, known_word, moved, source, text_of, token_of, Points}
-use Rattle.lines.proofs.words.Tokens.{coded_same, kind_below, start_below, known_place, known_start, known_len, known-means, known-points, moved_place, moved_start, moved-len, moved-means, moved-points, text_length, in_tape, in_area, take_behind}
+use Rattle.lines.proofs.words.Tokens.{coded_same, kind_below, start_below, known_place, known_start, known_len, known-means, known-points, text_length, in_tape, in_area, take_behind}
+use Rattle.lines.proofs.words.Tokens.{moved_place, moved_start, moved-len, moved-means, moved-points}
 use Rattle.lines.specs.declared.texts.Size.{Size}
 use Rattle.build.specs.State.{used, Room, Appends}
 

@@ -10,7 +10,7 @@ use lib.ListN.{length, get_or, take, drop, length-map}
 use lib.Seq.{take-suc, take_all, drop-cons}
 use Rattle.std.proofs.lemmas.List.{take_rest}
 use Rattle.reference.specs.Control.{◌and◌, ◌or◌, when◌then◌else◌, let_some◌else◌then◌}
-use Rattle.reference.specs.Text.{Text, bytes, ◌≟◌, starts_with, ends_with}
+use Rattle.reference.specs.Text.{Text, bytes, ◌≟◌}
 use Rattle.reference.specs.Listing.{Token, token, is, Number}
 use Rattle.reference.specs.Numbers.{read_number, wrap, show, delim_before, delim_after, folded, fold_at, fold}
 use Rattle.reference.specs.Claim.{size}
@@ -18,7 +18,7 @@ use Rattle.reference.proofs.Cases.{none-some}
 use Rattle.reference.proofs.Shapes.{folds}
 use Rattle.joining.proofs.Room.{is_sign, signs, keep-room}
 use Rattle.laws.proofs.Scans.{if-true, if-false, and_true, and_false}
-use Rattle.lines.specs.Words.{kind_of, text_of, token_of, tokens_of}
+use Rattle.lines.specs.Words.{kind_of, token_of, tokens_of}
 use Rattle.lines.specs.Traits.{delimits_before, delimits_after}
 use Rattle.lines.proofs.shapes.Tests.{is_not}
 use Rattle.build.specs.Folding.{operated, sum_of, number_token, last_of, fold_next, fold_behind}

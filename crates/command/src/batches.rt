@@ -1,5 +1,5 @@
 // Several files in one call: how many are done while they are, where a terminal shows it, and what became of them at the end.
-use crate::files::{Fate, Outcome, begin_line, tell};
+use crate::console::{Fate, Outcome, begin_line, tell};
 use crate::{Call, Target};
 use arguments::{Request, Verb, next_word};
 use std::io::IsTerminal;

@@ -1,10 +1,11 @@
 // The cautions of cleaned lines, and what is told of them: how many lines have any, and of each of those its number, its text, its kinds in
 // words, and the raw lines that came into it.
-use crate::files::{Trouble, front, no_memory, print, print_decimal};
+use crate::console::{Trouble, buffer_of, print, print_decimal};
 use crate::json::print_quoted;
 use crate::{Call, Input};
 use answers::Refusal;
 use caution_words::{ALL, count_cautioned, put_head, put_kinds, set_at};
+use files::front;
 use listing_text::put_listing;
 use render::count_of;
 use sources::came_into;
@@ -224,9 +225,7 @@ impl Call<'_> {
     pub(crate) fn caution_one(&self, input: Input) -> Result<(), Trouble> {
         let mut out = [0u8; 59137];
         let mut sets = [0u8; 512];
-        let Ok(mut origins) = vec![in self.rt.alloc(); 0u8; 65536] else {
-            return Err(no_memory(self.rt));
-        };
+        let mut origins = buffer_of(self.rt, 65536)?;
         let f = input.clean(&mut out)?;
         let sets = input.cautions(&mut sets)?;
         input.note_origins(sets, &mut origins);

@@ -1,48 +1,19 @@
 // What is looked at before anything is done: whether a terminal would be read or written, whether a result would go onto an input, whether
 // two would go to one file; and what an ended run left behind, which is told.
-use crate::files::{begin_line, front, is_dash, path_of, tell};
+use crate::console::{begin_line, is_dash, tell};
 use crate::{Call, Target};
 use arguments::{Action, Request, Value, Verb, base_name, next_word};
+use files::{file_at, front, is_gone, path_of, process_of};
 use std::alloc::AllocError;
 use std::collections::HashSet;
-use std::fs::{metadata, read_dir};
+use std::fs::read_dir;
 use std::io::IsTerminal;
-use std::os::unix::fs::MetadataExt;
-
-// What tells a regular file that a path names from every other.
-fn file_at(rt: &HostRuntime, path: &[u8]) -> Option<(u64, u64)> {
-    let found = metadata(rt, path_of(path).ok()?).ok()?;
-    if found.is_file() {
-        Some((found.dev(), found.ino()))
-    } else {
-        None
-    }
-}
 
 // A path without its base name: the folder that it is in, as it is written.
 fn folder_of(path: &[u8]) -> &[u8] {
     match path.len().checked_sub(base_name(path).len()) {
         Some(n) => front(path, n),
         None => &path[..0],
-    }
-}
-
-// Whether no process has this number, in digits.
-pub(crate) fn is_gone(rt: &HostRuntime, number: &str) -> bool {
-    if number.is_empty() || !number.bytes().all(|b| b.is_ascii_digit()) {
-        return false;
-    }
-    match format!(in rt.alloc(); "/proc/{number}") {
-        Ok(path) => metadata(rt, path.as_str()).is_err(),
-        Err(_) => false,
-    }
-}
-
-// The process that the name of a run tells.
-pub(crate) fn process_of(run: &str) -> &str {
-    match run.split_once("-") {
-        Some((number, _)) => number,
-        None => run,
     }
 }
 

@@ -1,5 +1,5 @@
 // The help, and what is said of wrong use.
-use crate::files::{Trouble, print, tell};
+use crate::console::{Trouble, print, tell};
 use arguments::{Fault, Flag, Problem, Verb};
 use words::nth_word;
 

@@ -2,11 +2,12 @@
 // its calls are kept, or with the words that it was refused with. A row of a page is a link to it. Files are read and cleaned once more
 // for their rows.
 use crate::Call;
-use crate::files::{front, is_dash, read_path};
+use crate::console::is_dash;
 use crate::refusals::words_of;
 use answers::Refusal;
 use arguments::{Request, base_name, next_word};
 use caution_words::count_cautioned;
+use files::{front, read_path};
 use std::io::{Error, Write};
 use tallies::{calls_stay, count_sizes};
 use text::Cursor;
@@ -103,7 +104,7 @@ fn put_refused<W: Write>(
 }
 
 fn put_row<W: Write>(call: &Call, name: &[u8], to: &mut W) -> Result<(), Error> {
-    let mut buffer = [0u8; 131072];
+    let mut buffer = vec![in call.rt.alloc(); 0u8; 131072]?;
     let mut out = [0u8; 59137];
     let mut sets = [0u8; 512];
     if is_dash(name) {

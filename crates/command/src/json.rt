@@ -1,5 +1,6 @@
 // A reply as JSON: an object a line, the name of the file first.
-use crate::files::{Trouble, front, no_memory, print};
+use crate::console::{Trouble, no_memory, print};
+use files::front;
 use std::alloc::AllocError;
 
 // Prints a text as it stands between quotes, in parts.

@@ -7,7 +7,7 @@
 
 mod batches; // several files in one call
 mod cautioning; // what is told of cautioned lines
-mod files; // reading, and what is told
+mod console; // the standard streams, and how things end
 mod guards; // what is looked at before anything is done
 mod help; // the help, and wrong use
 mod index; // the index over the pages of a folder
@@ -21,10 +21,11 @@ use answers::{Answer, Reason, Refusal};
 use arguments::{Destination, Part, Request, Value, Verb, base_name};
 use caution_words::count_cautioned;
 use clean::{Finished, Tally};
-use files::{
-    Fate, Outcome, Trouble, append, failed_by, front, is_dash, no_memory, print, put_path,
-    read_file, tell, tell_name,
+use console::{
+    Fate, Outcome, Trouble, buffer_of, failed_by, is_dash, no_memory, print, put_path, read_file,
+    tell, tell_name,
 };
+use files::{append, front};
 use ground::rules::Rules;
 use json::{print_object, print_quoted};
 use listing_text::put_listing;
@@ -160,8 +161,8 @@ impl Call<'_> {
     fn answered<F: FnOnce(&mut [u8]) -> Answer>(&self, name: &[u8], call: F) -> Result<(), Trouble>
         requires { F.IsAlwaysCallable call }
     {
-        let mut out = [0u8; 131072];
-        let n = call(&mut out)?;
+        let mut out = buffer_of(self.rt, 131072)?;
+        let n = call(out.as_mut_slice())?;
         // Kept: an answer is a u64, as C has it; std has no `From` of it for usize, and the error of `try_from` cannot come: no plainer.
         self.deliver(name, Product::Bytes(front(&out, n as usize)))
     }
@@ -316,10 +317,8 @@ impl Call<'_> {
 
     // The smallest start value of the chosen register.
     fn start_one(&self, input: Input) -> Result<(), Trouble> {
-        match vec![in self.rt.alloc(); 0u8; 589833] {
-            Ok(mut list) => self.print_start_value(input, &mut list),
-            Err(_) => Err(no_memory(self.rt)),
-        }
+        let mut list = buffer_of(self.rt, 589833)?;
+        self.print_start_value(input, &mut list)
     }
 }
 
@@ -404,7 +403,7 @@ impl Call<'_> {
 
     // A bare tape is shown up to the command that is wrong; nothing of it where its text has more than 262,144 bytes.
     fn show_one(&self, tape: &[u8]) -> Result<(), Trouble> {
-        let mut out = [0u8; 262144];
+        let mut out = buffer_of(self.rt, 262144)?;
         let shown = put_listing(tape, self.request.form.exact, &mut out);
         if shown.whole {
             print(self.rt, front(&out, shown.length))?;
@@ -477,7 +476,7 @@ impl Call<'_> {
     // more than 65,538, so a longer tape is refused at a command that ends before that, and whatever follows, the refusal is the whole
     // file's. (`show`, which does not ask the totals, shows of a longer file the front.)
     fn try_file(&self, verb: Verb, name: &[u8]) -> Result<(), Trouble> {
-        let mut buffer = [0u8; 131072];
+        let mut buffer = buffer_of(self.rt, 131072)?;
         let n = read_file(self.rt, name, &mut buffer)?;
         let input = self.input_of(name, front(&buffer, n))?;
         match self.work(verb, input) {

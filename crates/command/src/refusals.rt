@@ -1,8 +1,9 @@
 // What is told of a refusal: its line with the words for the one reason, what the bytes look like that were taken for a tape, and the same
 // as JSON.
-use crate::files::{Fate, Trouble, front, tell, tell_name};
+use crate::console::{Fate, Trouble, tell, tell_name};
 use crate::json::print_object;
 use answers::{Reason, Refusal};
+use files::front;
 pub(crate) use reports::words as words_of; // the words for the one reason
 
 // ---- in a tape

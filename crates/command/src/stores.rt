@@ -1,17 +1,17 @@
 // Named states of listings, in a file of 524,288 bytes. Who changes one holds its lock: a file beside it, which one run alone can make.
 use crate::Call;
-use crate::files::{
-    Outcome, Trouble, failed, failed_by, front, no_memory, path_of, print, print_decimal,
-    read_file, read_path, tell_name,
+use crate::console::{
+    Outcome, Trouble, buffer_of, failed, failed_by, no_memory, print, print_decimal, read_file,
+    tell_name,
 };
-use crate::guards::{is_gone, process_of};
-use crate::outputs::{Product, create_new, run_name};
+use crate::outputs::Product;
 use crate::refusals::{fate_of, tell_explained};
 use answers::{Reason, Refusal};
 use arguments::{Action, Value};
+use files::{front, is_gone, lock, lock_name, path_of, process_of, read_path};
 use render::count_of;
-use std::fs::{hard_link, remove_file};
-use std::io::{Error, ErrorKind, Write};
+use std::fs::remove_file;
+use std::io::ErrorKind;
 use std::thread::sleep;
 use std::time::Duration;
 use words::word_end;
@@ -19,30 +19,6 @@ use words::word_end;
 const STORE: usize = 524288;
 
 // ---- the lock
-
-fn lock_name(rt: &HostRuntime, at: &[u8]) -> Result<String, Error> {
-    let path = path_of(at)?;
-    Ok(format!(in rt.alloc(); "{path}.lock")?)
-}
-
-fn write_run(rt: &HostRuntime, path: &str, run: &str) -> Result<(), Error> {
-    let mut file = create_new(rt, path)?;
-    file.write_all(run.as_bytes())?;
-    file.write_all(b"\n")
-}
-
-// Makes the lock, which says whose it is from its first moment on: what is written under another name gets the lock's name too, where
-// nothing has that.
-fn make_lock(rt: &HostRuntime, lock: &str) -> Result<(), Error> {
-    let run = run_name(rt)?;
-    let part = format!(in rt.alloc(); "{lock}.part{run}")?;
-    let made = match write_run(rt, part.as_str(), run.as_str()) {
-        Ok(_) => hard_link(rt, part.as_str(), lock),
-        Err(error) => Err(error),
-    };
-    let _ = remove_file(rt, part.as_str());
-    made
-}
 
 // Tells whose lock it is, if that run is gone or the time is over.
 fn tell_lock(rt: &HostRuntime, lock: &str, is_over: bool) -> Option<Trouble> {
@@ -64,23 +40,24 @@ fn tell_lock(rt: &HostRuntime, lock: &str, is_over: bool) -> Option<Trouble> {
     })
 }
 
-// Waits for a store's lock, ten seconds at most.
-fn take_lock(rt: &HostRuntime, lock: &str) -> Result<(), Trouble> {
+// Waits for a store's lock, ten seconds at most, and answers its name.
+fn take_lock(rt: &HostRuntime, at: &[u8]) -> Result<String, Trouble> {
+    let name = lock_name(rt, at).map_err(|error| failed(rt, at, &error))?;
     for _ in 0..1000 {
-        match make_lock(rt, lock) {
-            Ok(_) => return Ok(()),
+        match lock(rt, at) {
+            Ok(taken) => return Ok(taken),
             Err(error) if error.kind() == ErrorKind::AlreadyExists => {
-                if let Some(trouble) = tell_lock(rt, lock, false) {
+                if let Some(trouble) = tell_lock(rt, name.as_str(), false) {
                     return Err(trouble);
                 }
                 sleep(rt, Duration::from_millis(10));
             }
-            Err(error) => return Err(failed(rt, lock.as_bytes(), &error)),
+            Err(error) => return Err(failed(rt, name.as_bytes(), &error)),
         }
     }
-    Err(match tell_lock(rt, lock, true) {
+    Err(match tell_lock(rt, name.as_str(), true) {
         Some(trouble) => trouble,
-        None => failed_by(rt, lock.as_bytes(), b"the store is locked"),
+        None => failed_by(rt, name.as_bytes(), b"the store is locked"),
     })
 }
 
@@ -193,10 +170,8 @@ impl Call<'_> {
     }
 
     fn act_on(&self, action: Action, at: &[u8], tape: &[u8]) -> Result<(), Trouble> {
-        match vec![in self.rt.alloc(); 0u8; 524289] {
-            Ok(mut buffer) => self.act_on_file(action, at, &mut buffer, tape),
-            Err(_) => Err(no_memory(self.rt)),
-        }
+        let mut buffer = buffer_of(self.rt, 524289)?;
+        self.act_on_file(action, at, &mut buffer, tape)
     }
 
     // The file of the tape that is to be saved.
@@ -210,8 +185,7 @@ impl Call<'_> {
 
     // Changes a store, holding its lock.
     fn change(&self, action: Action, at: &[u8], tape: &[u8]) -> Result<(), Trouble> {
-        let lock = lock_name(self.rt, at).map_err(|error| failed(self.rt, at, &error))?;
-        take_lock(self.rt, lock.as_str())?;
+        let lock = take_lock(self.rt, at)?;
         let done = self.act_on(action, at, tape);
         let _ = remove_file(self.rt, lock.as_str());
         done
@@ -219,7 +193,7 @@ impl Call<'_> {
 
     // The tape that is to be saved is read before the store is locked.
     fn try_state(&self, action: Action, at: &[u8]) -> Result<(), Trouble> {
-        let mut input = [0u8; 131072];
+        let mut input = buffer_of(self.rt, 131072)?;
         match action {
             Action::List | Action::Get => self.act_on(action, at, b""),
             Action::Delete => self.change(action, at, b""),

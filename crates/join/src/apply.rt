@@ -1,5 +1,5 @@
-// A plan carried out: in place where there is room behind the used marks, else by writing the whole listing anew. The lines that change take
-// in the marks of the line that goes.
+// A plan carried out: in place where there is room behind the used marks, else by writing the whole listing anew. The lines that change
+// take in the marks of the line that goes.
 ghost use Rattle.std.specs.Prelude.{◌≤◌, length};
 ghost use Rattle.ground.specs.Rules.{rules_of};
 ghost use Rattle.join.specs.Workspaces.{SameLent, Current, Lent, Plannable, Acted, Carried};

@@ -123,7 +123,7 @@ fn code_for(kind: u64, s: &[u8]) -> Option<u64>
 }
 
 // The word with what is known of its text, where that is in the tape.
-#[tactic(auto, using(crate::proofs::codes::Recoding::recoding, crate::proofs::codes::Elsewhere::coded_parts, crate::proofs::words::Tokens::bounds))]
+#[tactic(auto, using(crate::proofs::codes::Recoding::recoding, crate::proofs::words::Tokens::bounds))]
 pub fn coded(tape: &[u8], w: u64) -> u64
     ensures recoded { Recoded tape.now w result }
     ensures parts { result % 68719476736 ≡ w % 68719476736 }

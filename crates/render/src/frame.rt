@@ -7,7 +7,7 @@ use tallies::count_sizes;
 use text::same;
 
 // Wide: raw and cleaned side by side. Below 700 pixels each cleaned line stands above the raw line that it was. The number of a cleaned
-// line has room for a sign before it.
+// line, which has three digits at most, has room for a sign before it.
 fn put_style(out: Output) -> Result<(), Unwritten> {
     put(
         out,
@@ -52,7 +52,7 @@ fn put_style(out: Output) -> Result<(), Unwritten> {
           var(--ink)}\n\
           #t td{vertical-align:top;padding:1px 6px;border-bottom:1px solid var(--line);scroll-margin:var(--bar) 0 8px}\n\
           #t[data-pick=o] td:not(.o),#t[data-pick=c] td:not(.c){user-select:none}\n\
-          col.n{width:40px}col.a{width:82px}col.s{width:22px}col.i{width:88px}col.m{width:52px}col.p{width:156px}\n\
+          col.n{width:40px}col.a{width:82px}col.s{width:22px}col.i{width:88px}col.m{width:56px}col.p{width:156px}\n\
           td.n,td.m{text-align:right;color:var(--soft);user-select:none}td.a,td.p,td.i{color:var(--soft);font-size:11px;\
           line-height:19px;overflow-wrap:anywhere}\n\
           #t td.s{text-align:center;padding:1px 0;font-weight:700}td.m,th.m{border-left:2px solid var(--rule)}\n\
@@ -66,7 +66,7 @@ fn put_style(out: Output) -> Result<(), Unwritten> {
           td.o:focus{outline:2px solid var(--srci);outline-offset:-2px}\n\
           #t tr.src td.c,#t tr.src td.n,#t tr.src td.a,#t tr.src td.s{background:var(--src);color:var(--ink)}tr.src \
           td.n::before{content:'\\25B8';float:left;color:var(--srci)}\n\
-          td.m b{float:left;background:var(--warn);color:var(--paper);border-radius:3px;padding:0 5px;font-size:11px;\
+          td.m b{float:left;background:var(--warn);color:var(--paper);border-radius:3px;padding:0 4px;font-size:11px;\
           line-height:17px;cursor:pointer}\n\
           #t.live tr.w{display:none}#t.live tr.told+tr.w,#t.live tr:focus-within+tr.w{display:table-row}\n\
           #t td.w{border-left:3px solid var(--warn);padding:2px 8px 5px;font:12px/1.45 system-ui,'DejaVu Sans',sans-serif}#t td.w \
@@ -85,12 +85,12 @@ fn put_style(out: Output) -> Result<(), Unwritten> {
           code{font-size:12px;color:var(--soft)}.z{max-width:100ch}\n\
           @media screen and (max-width:1000px){body{padding:14px 12px 40px}#t td,#t th{padding-left:4px;padding-right:4px}td.a,\
           td.p,td.i{font-size:10px}\n\
-          col.n{width:32px}col.a{width:62px}col.s{width:16px}col.i{width:44px}col.m{width:38px}col.p{width:112px}td.p{\
+          col.n{width:32px}col.a{width:62px}col.s{width:16px}col.i{width:44px}col.m{width:50px}col.p{width:112px}td.p{\
           font-size:9.5px}}\n\
           @media screen and (max-width:700px){body{padding:12px 10px 40px}h1{font-size:17px}\n\
           #m{flex-basis:100%}#f{width:100%}#f label{flex:1 1 auto}input{width:100%}\n\
           #t,#t tbody{display:block}#t thead,#t colgroup{display:none}\n\
-          #t tr{display:grid;grid-template-columns:3.2em 1.6em 1fr;padding:3px 0;border-bottom:1px solid var(--rule)}#t td{\
+          #t tr{display:grid;grid-template-columns:4em 1.3em 1fr;padding:3px 0;border-bottom:1px solid var(--rule)}#t td{\
           border:0;padding:1px 4px}\n\
           #t td.m{grid-area:1/1}#t td.o{grid-area:1/2/2/4}#t td.p{grid-area:2/2/3/4}#t td.n{grid-area:3/1}#t td.s{grid-area:3/2}\
           #t td.c{grid-area:3/3}\n\
@@ -108,7 +108,7 @@ fn put_style(out: Output) -> Result<(), Unwritten> {
           h1{font-size:14px}h2{font-size:13px;margin-top:0}h3{font-size:11px;margin:10px 0 3px}h1,h2,h3,p.l,#b{\
           break-after:avoid}section{break-before:page}\n\
           #t{font-size:8.5px}#t th{font-size:9px}#t td.a,#t td.p,#t td.i{font-size:7.5px;line-height:13px}\n\
-          col.n{width:28px}col.a{width:60px}col.s{width:16px}col.i{width:56px}col.m{width:36px}col.p{width:108px}\n\
+          col.n{width:28px}col.a{width:60px}col.s{width:16px}col.i{width:56px}col.m{width:42px}col.p{width:108px}\n\
           .four{grid-template-columns:repeat(4,1fr);gap:0 20px}table.q,.q thead th{font-size:9px;line-height:1.35}.q th,.q td{\
           padding:1px 8px 1px 0}code{font-size:8.5px}.z{margin:2px 0 4px}\n\
           #t.live tr.w,#t tr.w{display:table-row;break-before:avoid}#t td.w{font-size:8px;padding:0 6px 2px}td.m b{\

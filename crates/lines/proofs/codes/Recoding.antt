@@ -15,6 +15,7 @@ use Rattle.lines.specs.Codes.{Says, Codes}
 use Rattle.lines.specs.Traits.{traits}
 use Rattle.lines.specs.Words.{kind_of, buffer_of, start_of, len_of, with_coding, text_of, token_of, tokens_of, Coded, Holds, Recoded, Recodes}
 use Rattle.lines.specs.Lines.{first_of, count_of, part_of, line_in, listing_of, Lined, Listed}
+use Rattle.lines.proofs.codes.Elsewhere.{coded_parts}
 use Rattle.lines.proofs.traits.Tests.{traits_below}
 use Rattle.lines.proofs.words.Each.{map_same}
 use Rattle.lines.proofs.words.Tokens.{coded_kind, coded_place, coded_start, coded-len, coded-code, coded-traits, in_tape, part_is}
@@ -46,7 +47,7 @@ module _ (tape : Text) (w : ℕ) {p s l : ℕ} (ep : p ≡ buffer_of w) (z : p �
       })
 
 -- what `coded` leaves
-pub ruleset recoding = (kept_code, recoded_with, traits_below)
+pub ruleset recoding = (kept_code, recoded_with, traits_below, coded_parts)
 
 -- ---- lists of words
 

@@ -1,7 +1,7 @@
 -- The traits of the texts that most Puncts have: each number is computed from the definition. Assumes nothing.
 use Prim.Native.Nat.{ℕ, ◌≤◌, ◌<◌}
 use native.Mathlib.Omega.{arith}
-use mathlib.Core.Path.{◌≡◌, refl, sym}
+use mathlib.Core.Path.{◌≡◌, refl}
 use mathlib.Core.List.{[], ◌∷◌}
 use lib.ListN.{length, get_or}
 use Rattle.reference.specs.Control.{◌and◌, ◌or◌, not, when◌then◌else◌}

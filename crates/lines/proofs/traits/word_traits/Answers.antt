@@ -1,5 +1,4 @@
 -- `lines::traits::word_traits` meets its contract. Assumes nothing.
-use mathlib.Core.Path.{◌∙◌}
 use Rattle.reference.specs.Control.{◌or◌}
 use Rattle.laws.proofs.Scans.{or_last}
 use Rattle.lines.specs.Traits.{only}

@@ -1,5 +1,5 @@
 -- `build::builder::Builder::keep` meets its contract. Assumes nothing.
-use Prim.Native.Nat.{◌≤◌, zero-le}
+use Prim.Native.Nat.{zero-le}
 use mathlib.Core.Path.{refl}
 use Rattle.build.proofs.Appending.{appends_within}
 use Rattle.build.proofs.builder.Builder.keep.Goals as goal

@@ -3,10 +3,9 @@ use native.Mathlib.Omega.{arith}
 use native.Mathlib.Nat.{le_refl}
 use mathlib.Core.Path.{◌≡◌, sym, ap, ◌∙◌}
 use mathlib.Core.Bool.{false}
-use lib.ListN.{length}
 use Rattle.reference.proofs.Cases.{true-false}
 use Rattle.lines.specs.Words.{kind_of, token_of}
-use Rattle.lines.proofs.words.Tokens.{kind_below, text_length}
+use Rattle.lines.proofs.words.Tokens.{text_length}
 use Rattle.build.specs.State.{joinable}
 use Rattle.build.proofs.Appending.{room_within}
 use Rattle.build.proofs.Merging.{no_join_ever}

@@ -1,7 +1,7 @@
-// Files as they are read, standard output, and what is told on standard error, in the system's words.
+// The standard streams: what is read and printed, and what is told on standard error, in the system's words; and how things end.
 use answers::Refusal;
-use std::fs::File;
-use std::io::{Error, ErrorKind, IsTerminal, Read, Write};
+use files::{append, front, read_all, read_path};
+use std::io::{Error, IsTerminal, Write};
 use std::process::ExitCode;
 
 // The numbers of the standard streams.
@@ -9,11 +9,6 @@ use std::process::ExitCode;
 pub(crate) const STDOUT: i32 = 1;
 
 pub(crate) const STDERR: i32 = 2;
-
-// The first n bytes; none where there are not so many.
-pub(crate) fn front(bytes: &[u8], n: usize) -> &[u8] {
-    bytes.get(..n).unwrap_or(&bytes[..0])
-}
 
 // Whether a name stands for standard input.
 pub(crate) fn is_dash(name: &[u8]) -> bool {
@@ -122,35 +117,17 @@ pub(crate) fn no_memory(rt: &HostRuntime) -> Trouble {
     failed_by(rt, b"puchkewa", b"no memory is left")
 }
 
-// ---- paths
+// ---- buffers
 
-// A path as text; what is not UTF-8 names no file that std can open.
-pub(crate) fn path_of(name: &[u8]) -> Result<&str, Error> {
-    std::str::from_utf8(name).map_err(|_| Error::from(ErrorKind::InvalidInput))
+// A buffer of so many bytes, all 0. What a tape must fit into is on the heap: to check a function with a local array takes some 2.4 KB of
+// memory for each byte of the array.
+pub(crate) fn buffer_of(rt: &HostRuntime, n: usize) -> Result<Vec<u8>, Trouble> {
+    vec![in rt.alloc(); 0u8; n].map_err(|_| no_memory(rt))
 }
 
 // ---- reading
 
-// Reads until the file ends or the buffer is full. A loop that is proved to end counts its turns: each but the last reads a byte.
-fn read_all<R: Read>(from: &mut R, buffer: &mut [u8]) -> Result<usize, Error> {
-    let mut at = 0;
-    for _ in 0..buffer.len() {
-        let n = from.read(&mut buffer[at..])?;
-        if n == 0 {
-            break;
-        }
-        at += n;
-    }
-    Ok(at)
-}
-
-// Reads what a path names, and answers how many bytes.
-pub(crate) fn read_path(rt: &HostRuntime, name: &[u8], buffer: &mut [u8]) -> Result<usize, Error> {
-    let mut file = File::open(rt, path_of(name)?)?;
-    read_all(&mut file, buffer)
-}
-
-// The same, or standard input by the name -.
+// Reads what a path names, or standard input by the name -, and answers how many bytes.
 pub(crate) fn read_file(
     rt: &HostRuntime,
     name: &[u8],
@@ -179,15 +156,6 @@ pub(crate) fn print_decimal(rt: &HostRuntime, n: u64) -> Result<(), Trouble> {
 }
 
 // ---- a path put together
-
-// Puts a text at `at` of a buffer, if it fits, and answers where it ends.
-// Kept: a buffer, and where it ends: its size is what makes a path too long. A Vec would want that test beside it, and an answer where no
-// memory is left: no plainer.
-pub(crate) fn append(s: &[u8], buffer: &mut [u8], at: usize) -> Option<usize> {
-    let room = buffer.get_mut(at..)?.get_mut(..s.len())?;
-    room.copy_from_slice(s);
-    Some(at + s.len())
-}
 
 // Puts the path of a file in a folder, if it fits.
 pub(crate) fn put_path(dir: &[u8], base: &[u8], path: &mut [u8]) -> Option<usize> {

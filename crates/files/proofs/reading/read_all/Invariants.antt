@@ -1,6 +1,6 @@
--- What the loop of `command::files::read_all` keeps true.
+-- What the loop of `files::reading::read_all` keeps true.
 use Rattle.std.proofs.Common.{◌≤◌, length}
-use Rattle.command.proofs.files.read_all.Given as goal
+use Rattle.files.proofs.reading.read_all.Given as goal
 
 abbrev pub invariant-loop : goal.invariant-loop
 invariant-loop g l = l.at ≤ length l.buffer

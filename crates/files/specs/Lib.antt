@@ -1,0 +1,2 @@
+-- Paths in a buffer, and the front of one.
+pub mod Paths
