@@ -11,7 +11,7 @@
  * What no call can ask, and its caller must see to:
  *   Overlap. Memory that a call writes must not overlap any other memory that it is lent.
  *   Pointers. None may be null, and each has as many bytes behind it as its length says.
- *   Stack. Not proved, but measured: the cleaning takes about 118,000 bytes, puchkewa_cautions 128,000, puchkewa_start_value 48,000, each other call less than
+ *   Stack. Not proved, but measured: the cleaning takes about 117,000 bytes, puchkewa_cautions 128,000, puchkewa_start_value 42,000, each other call less than
  *   4,000. With the profile, and in puchkewa_start_value, each level of nested brackets takes 144 more: up to 3.6 million in all (docs/TIMES.md). On a thread
  *   that has less the program crashes; 8 MiB are enough for every call.
  *
