@@ -1,5 +1,5 @@
 -- `raising::renewing::hand_on` meets its contract. Assumes nothing.
-use Prim.Native.Nat.{◌+◌, ◌<◌, ◌≤◌}
+use Prim.Native.Nat.{◌+◌, ◌<◌}
 use native.Mathlib.Omega.{arith}
 use lib.ListN.{length}
 use Rattle.raising.proofs.Moving.{moved_up}
