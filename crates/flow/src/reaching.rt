@@ -22,7 +22,7 @@ use lines::words;
 
 // The places from `first` to `last`: a sweep looks at no others where no others are set.
 #[derive(Clone, Copy)]
-pub struct Span {
+pub(crate) struct Span {
     pub first: usize,
     pub last: usize,
 }
@@ -221,7 +221,7 @@ fn step(
 }
 
 // From each line that is reached on to the next ones, from the first line to the last; answers the span of what is set then.
-pub fn sweep(
+fn sweep(
     g: &FormedListing<'_>,
     i: usize,
     f: Fam,
