@@ -5,6 +5,7 @@ pub mod Framing
 pub mod Strange
 pub mod Unmatched
 pub mod Walking
+mod Spanning
 pub mod Spreading
 pub mod Hanging
 pub mod Handing

@@ -1,10 +1,11 @@
 -- Tokens that are not looked into, by kind; a text that holds another, or a `*`, from a place on. Assumes nothing.
 use Prim.Native.Nat.{ℕ, suc, ◌+◌, ◌≤◌, ◌<◌}
 use native.Mathlib.Omega.{arith}
-use mathlib.Core.Path.{◌≡◌, refl, sym, ◌∙◌}
-use mathlib.Core.Bool.{Bool, true, false, not as flip}
+use mathlib.Core.Path.{◌≡◌, refl, sym, ap, ◌∙◌}
+use mathlib.Core.Bool.{Bool, true, false, false≢true, not as flip}
 use mathlib.Core.List.{List, [], ◌∷◌}
 use mathlib.Core.Option.{Option, none, some}
+use lib.Dec.{eqb}
 use lib.ListN.{length, drop, get_or}
 use borrow.Author.Tests.{ne_eqb}
 use Rattle.std.proofs.lemmas.List.{drop_more, drop_all, get_or-drop}
@@ -17,7 +18,8 @@ use Rattle.std.specs.Bool.{◌==◌}
 use Rattle.cautions.specs.Texts.{holds, star_after, is_strange, marks}
 use Rattle.lines.specs.Words.{token_of, tokens_of}
 use Rattle.reference.specs.Claim.{sum}
-use Rattle.flow.specs.Opaque.{is_odd_text, star_at}
+use Rattle.flow.specs.Opaque.{is_odd_byte, is_odd_text, star_at}
+use Rattle.reference.proofs.Cases.{neither}
 
 -- ---- by kind
 
@@ -102,6 +104,36 @@ module _ (p : ℕ) (s : Text) (k : ℕ) (h : k < length s) where
 pub star_end : (p : ℕ) (s : Text) (k : ℕ) {r : Bool} → length s ≤ k → star_after p (drop k s) ≡ r → false ≡ r
 unfolding star_after
 star_end p s k h i = rw (drop_all k s h) at i
+
+-- ---- a text without the bytes of the operators that are not looked into
+
+other_byte : (a c : ℕ) → is_odd_byte a ≡ true → is_odd_byte c ≡ false → eqb c a ≡ false
+other_byte a c o e = ne_eqb c a (λ h. false≢true (sym e ∙ ap is_odd_byte h ∙ o))
+
+module _ (a : ℕ) (p : Text) (o : is_odd_byte a ≡ true) where
+  not_held : (s : Text) → any is_odd_byte s ≡ false → holds (a ∷ p) s ≡ false
+  unfolding holds ◌or◌ ◌and◌
+  not_held [] e = refl
+  not_held (c ∷ s) e = let n = neither e in rw (other_byte a c o n.0, not_held s n.1)
+
+star_odd : is_odd_byte 42 ≡ true
+unfolding is_odd_byte ◌or◌
+star_odd = refl
+
+no_star : (q : ℕ) (s : Text) → any is_odd_byte s ≡ false → star_after q s ≡ false
+unfolding star_after ◌or◌ ◌and◌
+no_star q [] e = refl
+no_star q (c ∷ s) e =
+    let n = neither e in
+    rw (other_byte 42 c star_odd n.0, no_star c s n.1)
+
+pub odd_none : (s : Text) {x : Bool} → x ≡ any is_odd_byte s → x ≡ false → x ≡ is_odd_text s
+unfolding is_odd_text is_odd_byte ◌or◌
+odd_none s e f =
+    let n : any is_odd_byte s ≡ false = sym e ∙ f in
+    f ∙ sym (or_false _ (not_held 38 (38 ∷ []) refl s n) ∙ or_false _ (not_held 124 (124 ∷ []) refl s n) ∙ no_star 0 s n)
+
+pub ruleset odd = (odd_none)
 
 -- ---- the changes of a line
 

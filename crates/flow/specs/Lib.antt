@@ -10,5 +10,6 @@ pub mod Values
 pub mod Blocks
 pub mod Ways
 pub mod Reaching
+pub mod Spans
 pub mod Handed
 pub mod Between

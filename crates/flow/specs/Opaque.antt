@@ -10,6 +10,10 @@ use Rattle.cautions.specs.Texts.{holds, star_after, marks, marks_after, outside,
 unfoldable pub star_at : ℕ → ℕ → ℕ → Bool
 star_at p c n = eqb c 42 and not (eqb p 32 and eqb n 32)
 
+-- `&`, `|` or `*`: each text that is odd has one of them
+unfoldable pub is_odd_byte : ℕ → Bool
+is_odd_byte c = eqb c 38 or eqb c 124 or eqb c 42
+
 unfoldable pub is_odd_text : Text → Bool
 is_odd_text s = holds (bytes "&&") s or holds (bytes "||") s or star_after 0 s
 

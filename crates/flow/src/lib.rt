@@ -27,6 +27,6 @@ pub use handed::{is_handed, is_slot};
 pub use lineforms::{Form, LineForm, line_form};
 pub use marks::{Marking, marks_of};
 pub use opaque::{holds, is_opaque};
-pub use reaching::{count_set, hangs, is_dark, is_known, is_stale, mark_next, reached, sweep};
+pub use reaching::{count_set, hangs, is_dark, is_known, is_stale, mark_next, reached};
 pub use values::{ends, is_guarded, reads};
 pub use ways::{FormedListing, Next, next_of};

@@ -5,7 +5,7 @@ ghost use Rattle.reference.specs.Lists.{any, position, windows};
 ghost use Rattle.reference.specs.Listing.{token};
 ghost use Rattle.reference.specs.Claim.{sum};
 ghost use Rattle.cautions.specs.Texts.{holds, star_after, marks, is_strange, calls_register, is_opaque};
-ghost use Rattle.flow.specs.Opaque.{is_odd_text, star_at, changes_oddly};
+ghost use Rattle.flow.specs.Opaque.{is_odd_byte, is_odd_text, star_at, changes_oddly};
 ghost use Rattle.lines.specs.Texts.{Holds, Points, token_of, tokens_of};
 
 use crate::{frames, marks};
@@ -58,12 +58,34 @@ fn has_star(s: &[u8]) -> bool
     false
 }
 
-// Whether the text of a Punct is of an operator that is not looked into.
+// The bytes of which each operator that is not looked into has one.
+#[tactic(auto, using(laws::proofs::Std::tests_of_std), unfolding(crate::specs::Opaque::is_odd_byte))]
+fn is_odd_byte(b: u8) -> bool
+    ensures { result ≡ is_odd_byte b }
+{
+    b == b'&' || b == b'|' || b == b'*'
+}
+
+fn has_odd_byte(s: &[u8]) -> bool
+    ensures { result ≡ any is_odd_byte s.now }
+{
+    s.iter().any(|b| is_odd_byte(*b))
+}
+
+// Whether a text has such an operator, by three scans.
 #[tactic(auto, using(laws::proofs::Scans::tests), unfolding(crate::specs::Opaque::is_odd_text))]
-fn is_odd_text(s: &[u8]) -> bool
+fn has_odd_operator(s: &[u8]) -> bool
     ensures { result ≡ is_odd_text s.now }
 {
     holds(b"&&", s) || holds(b"||", s) || has_star(s)
+}
+
+// Whether the text of a Punct is of an operator that is not looked into. Most texts have none of its bytes.
+#[tactic(auto, using(crate::proofs::Strange::odd))]
+fn is_odd_text(s: &[u8]) -> bool
+    ensures { result ≡ is_odd_text s.now }
+{
+    has_odd_byte(s) && has_odd_operator(s)
 }
 
 // Whether a token with this kind and text is not looked into.

@@ -1,6 +1,6 @@
 // How far a register's value goes along the lines that may come next: one sweep over the lines that it reaches, of which the place behind
 // the last one stands for the caller.
-ghost use Rattle.std.specs.Prelude.{ℕ, ◌≡◌, ◌+◌, ◌<◌, suc, true, false, length, set, take, drop};
+ghost use Rattle.std.specs.Prelude.{ℕ, Bool, List, ◌≡◌, ◌+◌, ◌<◌, suc, true, false, length, set, take, drop};
 ghost use Rattle.std.proofs.Math.Seq.{slice};
 ghost use Rattle.reference.specs.Lists.{count, is_some};
 ghost use Rattle.reference.specs.Rules.{volatile};
@@ -9,6 +9,7 @@ ghost use Rattle.reference.specs.Text.{bytes, ◌≟◌};
 ghost use Rattle.cautions.specs.Forms.{form, places, next, ways, hangs, is_dark, reach, sweep};
 ghost use Rattle.flow.specs.Ways.{Tabled, forms_of};
 ghost use Rattle.flow.specs.Reaching.{is_one, cases_in, after, is_stale, stops_at, onward_of, stepped, reached_table};
+ghost use Rattle.flow.specs.Spans.{Within, widened};
 ghost use Rattle.ground.specs.Rules.{rules_of};
 ghost use Rattle.lines.specs.Texts.{Known, bare_listing, fam_text};
 
@@ -18,6 +19,13 @@ use crate::ways::{FormedListing, Next, next_of};
 use ground::rules::Rules;
 use lines::fams::Fam;
 use lines::words;
+
+// The places from `first` to `last`: a sweep looks at no others where no others are set.
+#[derive(Clone, Copy)]
+pub(crate) struct Span {
+    pub first: usize,
+    pub last: usize,
+}
 
 // Sets the place k, if there is one.
 fn mark(seen: &mut [bool], k: usize)
@@ -157,31 +165,83 @@ fn stops_at(g: &FormedListing<'_>, i: usize, f: Fam, rules: Rules, k: usize) -> 
     values::ends(&g.listing.texts, line, g.forms[k], f, rules)
 }
 
-// From line k, if it is reached, on to the next ones.
-fn step(g: &FormedListing<'_>, i: usize, f: Fam, rules: Rules, k: usize, seen: &mut [bool])
+// The span with the place k.
+fn widened(span: Span, k: usize) -> Span
+    ensures { result ≡ widened span k }
+{
+    Span {
+        first: span.first.min(k),
+        last: span.last.max(k),
+    }
+}
+
+// The span with the lines that may come next after line k.
+fn span_next(g: &FormedListing<'_>, k: usize, span: Span) -> Span
+    requires { Tabled g.now × (k < length g.now.listing.lines.now) }
+    ensures { (s : List Bool) → length s ≡ suc (length g.now.listing.lines.now) → Within span s
+        → Within result (reach (after (bare_listing g.now.listing) k) s) }
+{
+    match next_of(g, k) {
+        Next::Unknown => span,
+        Next::Nowhere => span,
+        Next::One(a) => widened(span, a),
+        Next::Two(a, b) => widened(widened(span, a), b),
+        Next::Three(a, b, c) => widened(widened(widened(span, a), b), c),
+        Next::Cases(_) => Span {
+            first: 0,
+            last: g.listing.lines.len(),
+        },
+    }
+}
+
+// From line k, if it is reached, on to the next ones; answers the span with those.
+fn step(
+    g: &FormedListing<'_>,
+    i: usize,
+    f: Fam,
+    rules: Rules,
+    k: usize,
+    span: Span,
+    seen: &mut [bool],
+) -> Span
     requires { Tabled g.now × (k < length g.now.listing.lines.now) × Known g.now.listing.texts f
-        × (length seen.old ≡ suc (length g.now.listing.lines.now)) }
-    ensures { seen.new ≡ stepped (bare_listing g.now.listing) i (fam_text g.now.listing.texts f) (volatile (rules_of rules)) k seen.old }
+        × (length seen.old ≡ suc (length g.now.listing.lines.now)) × Within span seen.old }
+    ensures { (seen.new ≡ stepped (bare_listing g.now.listing) i (fam_text g.now.listing.texts f) (volatile (rules_of rules)) k seen.old)
+        × Within result seen.new }
 {
     let is_reached = seen[k];
     if !is_reached {
-        return;
+        return span;
     }
     if stops_at(g, i, f, rules, k) {
-        return;
+        return span;
     }
     mark_next(g, k, seen);
+    span_next(g, k, span)
 }
 
-// From each line that is reached on to the next ones, from the first line to the last.
-pub fn sweep(g: &FormedListing<'_>, i: usize, f: Fam, rules: Rules, seen: &mut [bool])
-    requires { Tabled g.now × Known g.now.listing.texts f × (length seen.old ≡ suc (length g.now.listing.lines.now)) }
-    ensures { seen.new ≡ sweep 0 (onward_of (bare_listing g.now.listing) i
-        (fam_text g.now.listing.texts f) (volatile (rules_of rules))) seen.old }
+// From each line that is reached on to the next ones, from the first line to the last; answers the span of what is set then.
+fn sweep(
+    g: &FormedListing<'_>,
+    i: usize,
+    f: Fam,
+    rules: Rules,
+    span: Span,
+    seen: &mut [bool],
+) -> Span
+    requires { Tabled g.now × Known g.now.listing.texts f × (length seen.old ≡ suc (length g.now.listing.lines.now))
+        × Within span seen.old }
+    ensures { (seen.new ≡ sweep 0 (onward_of (bare_listing g.now.listing) i
+        (fam_text g.now.listing.texts f) (volatile (rules_of rules))) seen.old) × Within result seen.new }
 {
-    for k in 0..g.listing.lines.len() {
-        step(g, i, f, rules, k, seen);
+    let mut reached = span;
+    for k in span.first..g.listing.lines.len() {
+        if reached.last < k {
+            return reached;
+        }
+        reached = step(g, i, f, rules, k, reached, seen);
     }
+    reached
 }
 
 // How many places are set.
@@ -205,9 +265,14 @@ pub fn reached(g: &FormedListing<'_>, i: usize, f: Fam, rules: Rules, seen: &mut
 {
     seen.fill(false);
     mark_next(g, i, seen);
+    let none = Span {
+        first: g.listing.lines.len(),
+        last: 0,
+    };
+    let mut span = span_next(g, i, none);
     let mut before = count_set(seen);
     for turn in 0..g.listing.lines.len() {
-        sweep(g, i, f, rules, seen);
+        span = sweep(g, i, f, rules, span, seen);
         let now = count_set(seen);
         if now == before {
             return;

@@ -1,5 +1,6 @@
 -- Laws of the tables and the steps.
 pub mod Lending
+pub mod Moving
 pub mod Putting
 pub mod Cutting
 pub mod Gathering

@@ -99,7 +99,8 @@ pub(crate) fn hand_on(
 {
     let lines = listing.lines.len() + 1;
     let all = own | (uses_kinds(listing, i, last, parts) | sets[i]);
-    sets.copy_within(i + 1..lines, i);
-    forms.copy_within(i + 1..lines, i);
+    // Kept: within the parts, so that all places but the end are literals: the compiler then moves each as one block, and else one by one.
+    sets[i..lines].copy_within(1.., 0);
+    forms[i..lines].copy_within(1.., 0);
     renew_lines(listing, i, last, all, parts, sets, forms);
 }
