@@ -59,6 +59,8 @@ def try_one_name(folder):
     (folder / "x" / "apart").write_bytes(b"\x02\x01\xff")
     words = ("clean", folder / "x" / "apart", folder / "x" / "same.tape", "-d", out)
     expect_wrong((*words, folder / "y" / "same.tape"), f"puchkewa: {folder}/y/same.tape has the base name of another file")
+    names = [folder / name for name in ("x/first", "x/second", "y/second", "y/first")]
+    expect_wrong(("clean", *names, "-d", out), f"puchkewa: {names[3]} has the base name of another file")  # the twin of the first that has one behind it
     expect(list(out.iterdir()) == [], "something was written")
     status, printed, told = run(*words)
     expect((status, printed) == (0, b"") and summed(told, 2, 2, 0, 0), "files of other names, one of them named as the folder", status, told)

@@ -1,7 +1,7 @@
 -- What the code's answers mean, and what a call that writes an output does to it. Assumes nothing.
 use Rattle.std.specs.Prelude.{ℕ, ◌≡◌, List, ◌++◌, length, drop}
 use Rattle.reference.specs.Questions as Q
-use Rattle.std.specs.Prelude.{Result}
+use Rattle.std.specs.Prelude.{Result, Ok, Err}
 use Rattle.answers.specs.declared.Refusal.{Refusal}
 use Rattle.answers.specs.Refusals.{answered}
 use Rattle.answers.specs.declared.Told.{Told}
@@ -9,6 +9,11 @@ use Rattle.answers.specs.declared.Told.{Told}
 -- the definitions' answer
 abbrev pub answer_of : Result ℕ Refusal → Q.Answer ℕ
 answer_of = answered (λ n. n)
+
+-- the same of an answer whose refusal is a number, whichever, and a place
+abbrev pub by_number : Result ℕ (ℕ × ℕ) → Q.Answer ℕ
+by_number (Ok n) = Q.Passed n
+by_number (Err (number, place)) = Q.Refused number place
 
 -- ---- an answer in three numbers
 

@@ -1,7 +1,7 @@
--- The number of each reason, by documents 01 and 02, the reason of a number, and what a result means that is refused for one. Document 01:
--- "Where an answer is an enum, a definition gives this paper's number and values for each case of the enum, and the promises use that
--- definition." Assumes nothing.
-use Rattle.std.specs.Prelude.{ℕ, ◌≡◌, Result, Ok, Err, MatchResult}
+-- The number of each reason, by documents 01 and 02, the reason of a number, what a result means that is refused for one, and what is
+-- printed of a refusal. Document 01: "Where an answer is an enum, a definition gives this paper's number and values for each case of the
+-- enum, and the promises use that definition." Assumes nothing.
+use Rattle.std.specs.Prelude.{ℕ, ◌≡◌, List, ◌++◌, Result, Ok, Err, MatchResult, codes, decimal}
 use Rattle.reference.specs.Questions.{Answer, Refused, Passed}
 use Rattle.answers.specs.declared.Reason.{Reason}
 use Rattle.answers.specs.declared.Reason.TheVariants as reason
@@ -45,3 +45,7 @@ answered f (Err r) = Refused (number_of r.reason) r.place
 abbrev pub refusing : {A : Type 0} → Result A Reason → ℕ
 refusing (Ok a) = 0
 refusing (Err r) = number_of r
+
+-- what is printed of a refusal: its number and its place, in decimal
+abbrev pub refusal_text : Refusal → List ℕ
+refusal_text r = codes "refused " ++ decimal (number_of r.reason) ++ codes " at " ++ decimal r.place

@@ -1,9 +1,9 @@
 // Why a call is refused, and the answer of the calls beside the cleaning, for Rattle and in numbers for C and Rust.
 #![tactic(auto)]
 
-ghost use Rattle.std.specs.Prelude.{◌≡◌};
-ghost use Rattle.answers.specs.Refusals.{number_of, Numbers};
-ghost use Rattle.answers.specs.Answers.{answer_of, in_numbers, numbers_of};
+ghost use Rattle.std.specs.Prelude.{◌≡◌, Some, codes};
+ghost use Rattle.answers.specs.Refusals.{number_of, Numbers, refusal_text};
+ghost use Rattle.answers.specs.Answers.{answer_of, by_number, in_numbers, numbers_of};
 
 use std::error::Error;
 use std::fmt;
@@ -128,6 +128,8 @@ impl TryFrom<u64> for Reason {
 }
 
 impl fmt::Display for UnknownReason {
+    ghost output = { λ _. Some (codes "no reason has this number") };
+
     fn fmt<W: fmt::Write>(&self, f: &mut fmt::Formatter<W>) -> fmt::Result {
         f.write_str("no reason has this number")
     }
@@ -137,6 +139,8 @@ impl Error for UnknownReason {}
 
 // For programs that call the library: the command and the filter put their lines byte by byte.
 impl fmt::Display for Refusal {
+    ghost output = { λ r. Some (refusal_text r) };
+
     fn fmt<W: fmt::Write>(&self, f: &mut fmt::Formatter<W>) -> fmt::Result {
         let number = self.reason.number();
         let place = self.place;
@@ -156,6 +160,25 @@ pub struct Told {
     pub refusal: u64,
     pub place: u64,
     pub value: u64,
+}
+
+// An answer in numbers where the refusal is a number, whichever, and a place.
+pub fn tell(answer: Result<u64, (u64, usize)>) -> Told
+    ensures { numbers_of result ≡ in_numbers (by_number answer) }
+{
+    match answer {
+        Err((refusal, at)) => Told {
+            refusal,
+            // Kept: a cast, as in `Reason::at`.
+            place: at as u64,
+            value: 0,
+        },
+        Ok(value) => Told {
+            refusal: 0,
+            place: 0,
+            value,
+        },
+    }
 }
 
 impl From<Answer> for Told {

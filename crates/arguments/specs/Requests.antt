@@ -77,12 +77,15 @@ take_destination s to k =
       | _ ↦ with_fault problem.SecondDestination (Some k) s
     ]
 
-abbrev pub put_wanted : Request → ℕ → Text → Request
-put_wanted s k w =
-    elim (integer_in w) [ some v ↦ record s { start = record s.start { wanted = Some v } } | none ↦ with_fault problem.BadValue (Some k) s ]
+abbrev pub put_wanted : Request → Part → Text → Request
+put_wanted s part w =
+    elim (integer_in w) [
+      | some v ↦ record s { start = record s.start { wanted = Some (record { value = v; part = part }) } }
+      | none ↦ with_fault problem.BadValue (Some part.word) s
+    ]
 
-abbrev pub take_wanted : Request → ℕ → Text → Request
-take_wanted s k w = elim s.start.wanted [ None ↦ put_wanted s k w | Some _ ↦ with_fault problem.SecondValue (Some k) s ]
+abbrev pub take_wanted : Request → Part → Text → Request
+take_wanted s part w = elim s.start.wanted [ None ↦ put_wanted s part w | Some _ ↦ with_fault problem.SecondValue (Some part.word) s ]
 
 abbrev pub take_chosen : Request → Part → Request
 take_chosen s part =
@@ -96,7 +99,7 @@ value_taken s flag.Convention part w = take_convention s part.word w
 value_taken s flag.Edition part w = take_edition s part.word w
 value_taken s flag.Output part w = take_destination s (destination.File part) part.word
 value_taken s flag.Folder part w = take_destination s (destination.Folder part) part.word
-value_taken s flag.Return part w = take_wanted s part.word w
+value_taken s flag.Return part w = take_wanted s part w
 value_taken s _ part w = take_chosen s part
 
 -- the value w of an option, where it stands

@@ -15,5 +15,5 @@ pub use first_word::{is_at, next_word};
 pub use reading::{parse, put_entries};
 pub use request::{
     Action, Destination, Fault, Flag, Form, Goal, Kind, Operands, Part, Problem, Request, Start,
-    Value, Verb,
+    Value, Verb, Wanted,
 };

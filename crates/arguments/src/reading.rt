@@ -12,7 +12,7 @@ ghost use Rattle.text.specs.Cursor.{Written};
 use crate::entries::{entry_in, equals_at, is_entry, put_taken};
 use crate::first_word::{is_at, next_word};
 use crate::request::{
-    Action, Destination, Flag, Kind, Operands, Part, Problem, Request, Value, Verb,
+    Action, Destination, Flag, Kind, Operands, Part, Problem, Request, Value, Verb, Wanted,
 };
 use crate::values::{is_name, value_of};
 use crate::word_tables::{convention_in, option_in, reading_in, verb_in};
@@ -129,13 +129,13 @@ impl Request {
     }
 
     // The value that is to be returned.
-    fn take_wanted(&mut self, k: u64, word: &[u8])
-        ensures { self.new ≡ take_wanted self.old k word.now }
+    fn take_wanted(&mut self, part: Part, word: &[u8])
+        ensures { self.new ≡ take_wanted self.old part word.now }
     {
         match (self.start.wanted, integer_in(word)) {
-            (Some(_), _) => self.fail(Problem::SecondValue, Some(k)),
-            (None, Some(wanted)) => self.start.wanted = Some(wanted),
-            (None, None) => self.fail(Problem::BadValue, Some(k)),
+            (Some(_), _) => self.fail(Problem::SecondValue, Some(part.word)),
+            (None, Some(value)) => self.start.wanted = Some(Wanted { value, part }),
+            (None, None) => self.fail(Problem::BadValue, Some(part.word)),
         }
     }
 
@@ -160,7 +160,7 @@ impl Request {
             Flag::Edition => self.take_edition(k, value),
             Flag::Output => self.take_destination(Destination::File(part), k),
             Flag::Folder => self.take_destination(Destination::Folder(part), k),
-            Flag::Return => self.take_wanted(k, value),
+            Flag::Return => self.take_wanted(part, value),
             _ => self.take_chosen(part),
         }
     }

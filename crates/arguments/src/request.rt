@@ -143,10 +143,17 @@ pub struct Operands {
     pub value: Option<Value>,
 }
 
+// The value of --return, and the word that gave it.
+#[derive(Clone, Copy)]
+pub struct Wanted {
+    pub value: u64,
+    pub part: Part,
+}
+
 // What `start` asks: the values of --return and --choose, and the last operand that is an entry, REG=VALUE.
 #[derive(Clone, Copy)]
 pub struct Start {
-    pub wanted: Option<u64>,
+    pub wanted: Option<Wanted>,
     pub chosen: Option<Part>,
     pub entry: Option<u64>,
 }

@@ -6,14 +6,19 @@ use mathlib.Core.Path.{◌≡◌, refl, sym, ap, ◌∙◌}
 use mathlib.Core.List.{List, ◌++◌}
 use lib.ListN.{length, get_or, set, take, drop, length-append, length-drop}
 use lib.Seq.{paste, take-length, take-take, take_all, take_at, take-set-le, drop_at, drop-append-le, get_or-set_same, length-take-le}
+use Rattle.std.specs.Prelude.{Bool, true, false, ltb}
+use Rattle.reference.specs.Control.{when◌then◌else◌}
 use Rattle.reference.specs.Text.{Text}
 use Rattle.reference.specs.Listing.{Token, token}
 use Rattle.laws.proofs.Parts.{drop-take}
-use Rattle.lines.specs.Words.{kind_of, buffer_of, start_of, len_of, known_word, moved, source, text_of, token_of, Points}
+use Rattle.laws.proofs.Scans.{if-true, if-false}
+use Rattle.std.proofs.Common.{lt-ltb, le-ltb}
+use Rattle.lines.specs.Words.{kind_of, buffer_of, start_of, len_of, word, known_word, moved, source, text_of, token_of, Points}
 use Rattle.lines.proofs.words.Tokens.{coded_same, kind_below, start_below, known_place, known_start, known_len, known-means, known-points, text_length, in_tape, in_area, take_behind}
+use Rattle.lines.proofs.words.Tokens.{word_place, word_start, word_len, word-means, word-points}
 use Rattle.lines.proofs.words.Tokens.{moved_place, moved_start, moved-len, moved-means, moved-points}
 use Rattle.lines.specs.declared.texts.Size.{Size}
-use Rattle.build.specs.State.{used, Room, Appends}
+use Rattle.build.specs.State.{word_behind, used, Room, Appends}
 
 one_not_zero : ◌≡◌ {A = ℕ} 1 0 → ⊥
 one_not_zero e = omega arith
@@ -52,6 +57,69 @@ pub place_at : (tokens : List ℕ) (keep k start : ℕ) (s : Text) {v : ℕ} →
     → buffer_of (get_or (set tokens keep v) keep 0) ≡ 1
 place_at tokens keep k start s {v} below hk hs hl ev = ap buffer_of (get_or-set_same tokens keep v 0 below ∙ ev) ∙ known_place k 1 start s hk (omega arith) hs hl
 
+-- the word x of the token of kind k with the text u at `start` of the area
+record Tells (tape area : Text) (k start : ℕ) (u : Text) (x : ℕ) : Type 0 where
+  place : buffer_of x ≡ 1
+  starts : start_of x ≡ start
+  size : len_of x ≡ length u
+  points : Points tape area x
+  means : token_of tape area x ≡ token k u
+
+module _ (k start : ℕ) (u : Text) (hk : k < 8) (hs : start < 65536) (hl : length u < 65536) where
+  behind_place : buffer_of (word_behind k start u) ≡ 1
+  unfolding when◌then◌else◌
+  behind_place = by (ltb 16 (length u))
+    where
+      by : (b : Bool) → buffer_of (when b then word k 1 start (length u) else known_word k 1 start u) ≡ 1
+      by true = word_place k 1 start (length u) hk (omega arith) hs
+      by false = known_place k 1 start u hk (omega arith) hs hl
+
+  module _ (tape area : Text) (here : take (length u) (drop start (source tape area 1)) ≡ u) (inside : start + length u ≤ length (source tape area 1))
+      (short : start + length u < 65536) where
+    behind-tells : Tells tape area k start u (word_behind k start u)
+    unfolding when◌then◌else◌
+    behind-tells = by (ltb 16 (length u))
+      where
+        by : (b : Bool) → Tells tape area k start u (when b then word k 1 start (length u) else known_word k 1 start u)
+        by true =
+            record {
+              place = word_place k 1 start (length u) hk (omega arith) hs;
+              starts = word_start k 1 start (length u) hk (omega arith) hs;
+              size = word_len k 1 start (length u) hk (omega arith) hs hl;
+              points = word-points k 1 start (length u) hk (omega arith) hs hl tape area inside short;
+              means = word-means k 1 start (length u) hk (omega arith) hs hl tape area ∙ ap (token k) here;
+            }
+        by false =
+            record {
+              place = known_place k 1 start u hk (omega arith) hs hl;
+              starts = known_start k 1 start u hk (omega arith) hs hl;
+              size = known_len k 1 start u hk (omega arith) hs hl;
+              points = known-points k 1 start u hk (omega arith) hs hl tape area here inside short;
+              means = known-means k 1 start u hk (omega arith) hs hl tape area here;
+            }
+
+-- the word by its two ways
+behind-within : (from end : ℕ) (xs : List ℕ) → end ≤ length xs → length (take (end - from) (drop from xs)) ≡ end - from
+behind-within from end xs h = length-take-le (end - from) (drop from xs) (omega (arith, length-drop from xs))
+
+module _ (k from end : ℕ) (xs : List ℕ) (h : end ≤ length xs) where
+  abbrev part : Text
+  part = take (end - from) (drop from xs)
+
+  pub behind-long : 16 < end - from → word k 1 from (end - from) ≡ word_behind k from part
+  behind-long g =
+      let b : ltb 16 (length part) ≡ true = rw (behind-within from end xs h) (lt-ltb 16 (end - from) g) in
+      ap (word k 1 from) (sym (behind-within from end xs h)) ∙ sym (if-true _ _ b)
+
+  pub behind-short : end - from ≤ 16 → known_word k 1 from part ≡ word_behind k from part
+  behind-short g =
+      let b : ltb 16 (length part) ≡ false = rw (behind-within from end xs h) (le-ltb 16 (end - from) g) in
+      sym (if-false _ _ b)
+
+pub behind_at : (tokens : List ℕ) (keep k start : ℕ) (s : Text) {v : ℕ} → keep < length tokens → k < 8 → start < 65536 → length s < 65536 → v ≡ word_behind k start s
+    → buffer_of (get_or (set tokens keep v) keep 0) ≡ 1
+behind_at tokens keep k start s {v} below hk hs hl ev = ap buffer_of (get_or-set_same tokens keep v 0 below ∙ ev) ∙ behind_place k start s hk hs hl
+
 -- a token with a copy of its text
 module _ (tape area : Text) (tokens : List ℕ) (at : Size) (k : ℕ) (s : Text) (hk : k < 8) (r : Room area tokens at (length s) 1) where
   pub copied : {area' : Text} {v : ℕ} → area' ≡ paste area at.text s (length s) → v ≡ known_word k 1 at.text s
@@ -87,7 +155,7 @@ module _ (tape area : Text) (tokens : List ℕ) (at : Size) (n : ℕ) (s : Text)
   joined {area'} e =
       sym (drop-take (start_of w) (at.text + length s) area') ∙ rw (take_behind area at.text s (omega (arith, r.text_fits)) e) (drop-append-le (start_of w) (used area at) s (omega (arith, ul)))
 
-  pub lengthened : {area' u : Text} {v : ℕ} → area' ≡ paste area at.text s (length s) → u ≡ front ++ s → v ≡ known_word (kind_of w) 1 (start_of w) u
+  pub lengthened : {area' u : Text} {v : ℕ} → area' ≡ paste area at.text s (length s) → u ≡ front ++ s → v ≡ word_behind (kind_of w) (start_of w) u
       → Appends tape area tokens at n (token (kind_of w) (text_of tape (used area at) w ++ s)) (length s) area' (set tokens n v)
       (record { lines = at.lines; tokens = n + 1; text = at.text + length s })
   unfolding text_of
@@ -95,19 +163,17 @@ module _ (tape area : Text) (tokens : List ℕ) (at : Size) (n : ℕ) (s : Text)
       let lu : length u ≡ len_of w + length s = ap length eu ∙ rw (length-append, length-drop) (omega (arith, ul)) in
       let hu : length u < 65536 = omega (arith, r.short) in
       let at-end = in_area tape (used area at ++ s) one_not_zero in
-      let st = known_start (kind_of w) 1 (start_of w) u (kind_below w) (omega arith) (start_below w) hu in
       let here : take (length u) (drop (start_of w) (source tape (used area at ++ s) 1)) ≡ u =
       rw (at-end, drop-append-le (start_of w) (used area at) s (omega (arith, ul)), ← eu) (take-length u) in
-      stored tape area tokens at n s r.text_fits (omega (arith, r.words_fit)) e ev
-      (known-points (kind_of w) 1 (start_of w) u (kind_below w) (omega arith) (start_below w) hu tape (used area at ++ s) here
-      (rw (at-end, length-append) (omega (arith, ul))) (omega (arith, r.short)))
-      (known-means (kind_of w) 1 (start_of w) u (kind_below w) (omega arith) (start_below w) hu tape (used area at ++ s) here
-      ∙ ap (token (kind_of w)) (rw (pl, in_area tape (used area at) one_not_zero, whole) eu))
-      (λ _. rw (st, known_len (kind_of w) 1 (start_of w) u (kind_below w) (omega arith) (start_below w) hu) (omega arith))
-      (λ m h f _. rw st (f below pl))
+      let x = behind-tells (kind_of w) (start_of w) u (kind_below w) (start_below w) hu tape (used area at ++ s) here
+      (rw (at-end, length-append) (omega (arith, ul))) (omega (arith, r.short)) in
+      stored tape area tokens at n s r.text_fits (omega (arith, r.words_fit)) e ev x.points
+      (x.means ∙ ap (token (kind_of w)) (rw (pl, in_area tape (used area at) one_not_zero, whole) eu))
+      (λ _. rw (x.starts, x.size) (omega arith))
+      (λ m h f _. rw x.starts (f below pl))
 
   -- the same, where k tokens are then in use
-  pub lengthened-to : {area' u : Text} {v k : ℕ} → area' ≡ paste area at.text s (length s) → u ≡ front ++ s → v ≡ known_word (kind_of w) 1 (start_of w) u → n + 1 ≡ k
+  pub lengthened-to : {area' u : Text} {v k : ℕ} → area' ≡ paste area at.text s (length s) → u ≡ front ++ s → v ≡ word_behind (kind_of w) (start_of w) u → n + 1 ≡ k
       → Appends tape area tokens at n (token (kind_of w) (text_of tape (used area at) w ++ s)) (length s) area' (set tokens n v)
       (record { lines = at.lines; tokens = k; text = at.text + length s })
   lengthened-to e eu ev ek = rw (← ek) (lengthened e eu ev)

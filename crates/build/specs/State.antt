@@ -7,7 +7,7 @@ use Rattle.reference.specs.Text.{Text}
 use Rattle.reference.specs.Listing.{Token, token, Plain, Punct}
 use Rattle.reference.specs.Numbers.{joins}
 use Rattle.reference.specs.Claim.{text_in}
-use Rattle.lines.specs.Words.{kind_of, buffer_of, start_of, len_of, token_of, tokens_of, Points, Holds}
+use Rattle.lines.specs.Words.{kind_of, buffer_of, start_of, len_of, word, known_word, token_of, tokens_of, Points, Holds}
 use Rattle.lines.specs.declared.texts.Size.{Size}
 
 -- ---- what a push does to the tokens of a line
@@ -50,6 +50,10 @@ pub record Built (tape area : Text) (tokens : List ℕ) (from : ℕ) (at : Size)
   pub words_fit : at.tokens ≤ length tokens
   pub after : from ≤ at.tokens
   pub holds : Holds tape (used area at) (words_from from tokens at)
+
+-- the word of a token of this kind with the text s, which stands at `start` of the area: with its traits, or of a long text without
+abbrev pub word_behind : ℕ → ℕ → Text → ℕ
+word_behind kind start s = when ltb 16 (length s) then word kind 1 start (length s) else known_word kind 1 start s
 
 -- the last word in use
 abbrev pub last_word : List ℕ → Size → ℕ

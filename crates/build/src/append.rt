@@ -2,9 +2,10 @@
 ghost use Rattle.std.specs.Prelude.{◌≡◌, ◌++◌, ◌+◌, ◌-◌, ◌≤◌, ◌<◌, length, take, drop};
 ghost use Rattle.reference.specs.Text.{Text};
 ghost use Rattle.reference.specs.Listing.{token};
-ghost use Rattle.lines.specs.Words.{kind_of, buffer_of, start_of, len_of, known_word, text_of};
+ghost use Rattle.lines.specs.Words.{kind_of, buffer_of, start_of, len_of, text_of};
 ghost use Rattle.lines.specs.Words as words;
 ghost use Rattle.lines.specs.Texts.{Points, token_of};
+ghost use Rattle.build.specs.State.{word_behind};
 ghost use Rattle.build.specs.Builders.{SameLent, Room, Appends, word_at, last_word, used};
 
 use crate::builder::Builder;
@@ -58,12 +59,18 @@ impl Builder<'_> {
         self.size.text = end;
     }
 
-    // The word of a token of this kind with the text between two places of the area.
+    // The word of a token of this kind with the text between two places of the area. Of a long text it keeps no traits: such a text may
+    // be made by many joins, and each of them would look at the whole of it.
     fn word_between(&self, kind: u64, from: usize, end: usize) -> u64
         requires { (kind < 8) × (from ≤ end) × (end < 65536) × (end ≤ length self.now.area.now) }
-        ensures { result ≡ known_word kind 1 from (take (end - from) (drop from self.now.area.now)) }
+        ensures { result ≡ word_behind kind from (take (end - from) (drop from self.now.area.now)) }
     {
-        area_word(kind, from, &self.area[from..end])
+        let n = end - from;
+        if 16 < n {
+            words::token_word(kind, words::IN_AREA, from, n)
+        } else {
+            area_word(kind, from, &self.area[from..end])
+        }
     }
 
     // Appends a text to that of the last token, which ends where the text in use ends.

@@ -5,7 +5,7 @@ use crate::{Call, Target};
 use arguments::{Action, Request, Value, Verb, base_name, next_word};
 use files::{file_at, front, is_gone, path_of, process_of};
 use std::alloc::AllocError;
-use std::collections::HashSet;
+use std::collections::{HashMap, HashSet};
 use std::fs::read_dir;
 use std::io::IsTerminal;
 
@@ -157,26 +157,39 @@ impl Call<'_> {
         None
     }
 
-    // The first operand that has the base name of one before it.
+    // What `clash` of crate arguments answers: of the first operand whose base name one behind it has, the first that has it. Each base
+    // name is kept with the first operand that has it, so that it is one walk.
     fn repeated(&self) -> Result<Option<u64>, AllocError> {
-        let mut names = HashSet::new(self.rt.alloc());
+        let mut names: HashMap<&[u8], u64> = HashMap::new(self.rt.alloc());
+        let mut found = None;
+        let mut earliest = u64::MAX;
         let mut s = Request::begin();
         let mut left = self.words;
         for k in 0..u64::MAX {
             let Some((word, rest)) = next_word(left) else {
-                return Ok(None);
+                break;
             };
             s = s.step(k, word);
-            if s.operands.last == Some(k) && !names.insert(base_name(word))? {
-                return Ok(Some(k));
+            if s.operands.last == Some(k) {
+                let base = base_name(word);
+                match names.get(&base).copied() {
+                    Some(first) if first < earliest => {
+                        earliest = first;
+                        found = Some(k);
+                    }
+                    Some(_) => {}
+                    None => {
+                        let _ = names.insert(base, k)?;
+                    }
+                }
             }
             left = rest;
         }
-        Ok(None)
+        Ok(found)
     }
 
     // An operand, if there is one, that has the base name of one before it: with -d both would be written to one file. Where no memory is
-    // left for the names it is found by `clash` of crate arguments, which takes each pair of operands.
+    // left for the names it is asked of `clash` itself, which takes each pair of operands.
     fn clash(&self) -> Option<u64> {
         match self.target {
             Target::Folder(_) => match self.repeated() {

@@ -230,8 +230,8 @@ impl Call<'_> {
             return Ok(());
         };
         let chosen = part_of(self.words, part);
-        match start::start_value(input.tape, chosen, front(list, n), wanted) {
-            Ok(v) => self.print_start(input, chosen, front(list, n), wanted, v),
+        match start::start_value(input.tape, chosen, front(list, n), wanted.value) {
+            Ok(v) => self.print_start(input, chosen, front(list, n), wanted.value, v),
             Err(refused) if refused.reason == Reason::NoRegister => {
                 if self.request.form.json {
                     print_refused(self.rt, input.name, input.tape, refused)?;
@@ -286,7 +286,7 @@ impl Call<'_> {
         self.tell_others(input, chosen, list, wanted)
     }
 
-    // Tells, unless told to be quiet, that the value is one of several, and how they follow.
+    // Tells on standard error, where the value is one of several, how they follow.
     fn tell_others(
         &self,
         input: Input,

@@ -4,7 +4,7 @@ use crate::console::{STDOUT, Trouble, failed};
 use crate::index::put_index;
 use files::Content;
 use render::{Cleaning, Sink, put_page};
-use std::io::{Error, ErrorKind, Write};
+use std::io::{Error, Write};
 
 // The bytes of a tape, or the page of a cleaning or the index over pages, which are made while they are written.
 #[derive(Clone, Copy)]
@@ -14,7 +14,8 @@ pub(crate) enum Product<'a> {
     Index(&'a Call<'a>),
 }
 
-// Writes a page to what is open. Where not all could be written the system says why when it is asked for one byte more.
+// Writes a page to what is open. Where not all could be written the system says why when it is asked for one byte more; where it takes that
+// byte, no more than this is known.
 fn put_whole<W: Write>(cleaning: &Cleaning, to: &mut W, fd: i32) -> Result<(), Error> {
     let mut sink = Sink { fd, sound: true };
     put_page(&mut sink, cleaning);
@@ -22,7 +23,7 @@ fn put_whole<W: Write>(cleaning: &Cleaning, to: &mut W, fd: i32) -> Result<(), E
         return Ok(());
     }
     to.write_all(b"\n")?;
-    Err(Error::from(ErrorKind::WriteZero))
+    Err(Error::other("not all could be written"))
 }
 
 impl Content for Product<'_> {

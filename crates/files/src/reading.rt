@@ -14,12 +14,12 @@ pub fn front(bytes: &[u8], n: usize) -> &[u8]
     bytes.get(..n).unwrap_or(&bytes[..0])
 }
 
-// Reads until the file ends or the buffer is full. A loop that is proved to end counts its turns: each but the last reads a byte.
+// Reads until the file ends or the buffer is full; a full buffer is not read into. Each turn but the last reads a byte.
 pub fn read_all<R: Read>(from: &mut R, buffer: &mut [u8]) -> Result<usize, Error>
     ensures { ReadsAtMost result buffer.new }
 {
     let mut at = 0;
-    for _ in 0..buffer.len() {
+    while at < buffer.len() {
         let n = from.read(&mut buffer[at..])?;
         if n == 0 {
             break;

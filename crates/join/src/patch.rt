@@ -26,8 +26,11 @@ fn remove_word(lines: &mut [u64], gone: usize)
     requires { gone < length lines.old }
     ensures { lines.new ≡ remove gone lines.old ++ drop (length lines.old - 1) lines.old }
 {
-    // Kept: within the part, so that both places are literals: the compiler then moves the words as one block, and else one by one.
-    lines[gone..].copy_within(1.., 0);
+    // Kept: a loop from line `gone` on. Of `copy_within`, and of a loop over the part from there on, in which both places are literals, the
+    // compiler makes a call of `memmove`, and the archive for C calls no more of C than include/puchkewa.h says.
+    for k in gone..lines.len() - 1 {
+        lines[k] = lines[k + 1];
+    }
 }
 
 // Writes the lines that change behind the used marks, but in the second set; their words take the places of the old ones, and the word of

@@ -8,12 +8,11 @@ use mathlib.Core.List.{reverse-cons}
 use denote.Param.Members.{Mut}
 use Rattle.std.specs.Fn.{Called, CalledAt}
 use Rattle.std.specs.Iterator.{CallableAtEachTurn, FindsItem, FindsPositionBack}
-use Rattle.std.specs.Iterator.Adapters.{copied_source, copied_steps, rev_source, rev_steps}
+use Rattle.std.specs.Iterator.Adapters.{copied_source, copied_steps}
 use Rattle.std.specs.Slice.Iter.{iter_rest, iter_steps_back}
 use Rattle.std.specs.declared.iter.Copied.{Copied}
-use Rattle.std.specs.declared.iter.Rev.{Rev}
 use Rattle.std.proofs.lemmas.Iterator.{YieldsList}
-use Rattle.std.proofs.lemmas.Iterator.Adapters.{YieldsList-from_rev_slice, serves_from_places}
+use Rattle.std.proofs.lemmas.Iterator.Adapters.{serves_from_places}
 use Rattle.std.proofs.lemmas.Iterator.Consumers.{YieldsList-from_copied, YieldsList-from_shown}
 use Rattle.std.proofs.lemmas.Iterator.Search.{find_from_yields_List, position_from_yields_List}
 use Rattle.std.proofs.lemmas.List.{get_or-reverse, get_or_read, length-reverse, reverse-append, reverse-reverse, take_all}
@@ -120,11 +119,13 @@ module _ {A : Type 0} (p : A → Bool) (f : ℕ → A) (ws : List ℕ) where
 -- ---- a label's name
 
 module _ (tape area : Text) (tokens lines places : List ℕ) (ok : Labelled (bare_listing tape area tokens lines) places) where
-  pub serves_labels : {s : Copied (Rev (Iter ℕ))} {F : Type 0} {R : F → ℕ → F → Type 0} {Q : F → ℕ → Type 0} {f : F} → iter_rest (rev_source (copied_source s)) ≡ places
+  -- the places are taken from the last back
+  pub serves_labels : {S : Type 0} {steps : S → std.Option (Bor ℕ) → S → Type 0} {s : Copied S} {F : Type 0} {R : F → ℕ → F → Type 0} {Q : F → ℕ → Type 0} {f : F}
+      → YieldsList steps (λ y. y.now) (copied_source s) (reverse places)
       → ((x : ℕ) (q : F) → R f x q → q ≡ f) → ((x : ℕ) → x < length lines → 0 < length (part_of tokens (get_or lines x 0)) → Q f x)
-      → CallableAtEachTurn (copied_steps (rev_steps iter_steps_back)) R Q s f
-  serves_labels e same calls =
-      serves_from_places (YieldsList-from_copied (YieldsList-from_rev_slice places e)) same
+      → CallableAtEachTurn (copied_steps steps) R Q s f
+  serves_labels road same calls =
+      serves_from_places (YieldsList-from_copied road) same
       (λ x k b i.
       let h : k < length places = rw length-reverse at b in
       let m : length places - 1 - k < length places = omega (arith, h) in
@@ -153,13 +154,14 @@ module _ (tape area : Text) (tokens lines places : List ℕ) (ok : Labelled (bar
       by rest false e =
           rw (← add-one n) (lookup_miss (bare_listing tape area tokens lines) places name n (omega arith) (is e)) ∙ rest ∙ sym (if-false _ _ e)
 
-  pub label_found : (name : Text) {F : Type 0} {g : Mut F (Bor ℕ × Unit {0}) Bool} {s : Copied (Rev (Iter ℕ))} (u : Copied (Rev (Iter ℕ))) (h : F) (r : std.Option ℕ)
-      → FindsItem (copied_steps (rev_steps iter_steps_back)) g s h r u
-      → iter_rest (rev_source (copied_source s)) ≡ places → ((x : ℕ) (b : Bool) (q : F) → CalledAt g h x b q → (q ≡ h) × (b ≡ is_named name x))
+  pub label_found : {S : Type 0} {steps : S → std.Option (Bor ℕ) → S → Type 0} (name : Text) {F : Type 0} {g : Mut F (Bor ℕ × Unit {0}) Bool} {s : Copied S} (u : Copied S)
+      (h : F) (r : std.Option ℕ)
+      → FindsItem (copied_steps steps) g s h r u
+      → YieldsList steps (λ y. y.now) (copied_source s) (reverse places) → ((x : ℕ) (b : Bool) (q : F) → CalledAt g h x b q → (q ≡ h) × (b ≡ is_named name x))
       → option_of r ≡ lookup (labels_at (bare_listing tape area tokens lines) places) name
-  label_found name u h r d e same =
+  label_found name u h r d road same =
       own r
-      ∙ ap option_of (find_from_yields_List (is_named name) u h r d (YieldsList-from_copied (YieldsList-from_rev_slice places e)) same)
+      ∙ ap option_of (find_from_yields_List (is_named name) u h r d (YieldsList-from_copied road) same)
       ∙ find-std (is_named name) (reverse places)
       ∙ sym (subst (λ (l : List ℕ). lookup (labels_at (bare_listing tape area tokens lines) l) name ≡ lists.find (is_named name) (reverse l))
       (take_all (length places) places (omega arith)) (named_back name (length places) (omega arith)))

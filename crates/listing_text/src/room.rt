@@ -1,7 +1,7 @@
 // Bytes put into a lent slice one after the other, as far as they fit: no function needs to know how long what it puts may be.
 // Kept: beside text's `Cursor`: each of its clauses asks for room for all that is put. What is put here has no length known before, so a
 // byte that does not fit is left out, and that it was is noted; with `Cursor` every call would stand behind a test of its own for room.
-ghost use Rattle.std.specs.Prelude.{◌≡◌, [], ◌∷◌, ◌≤◌};
+ghost use Rattle.std.specs.Prelude.{◌≡◌, [], ◌∷◌};
 ghost use Rattle.reference.specs.Tape.{to_le_bytes};
 ghost use Rattle.listing_text.specs.Room.{Puts, page, empty};
 
@@ -48,10 +48,14 @@ impl<'a> Clipped<'a> {
     }
 
     // Puts the lowest n bytes of a number, the lowest first.
+    // Kept: a loop: the promise is of any n, and `v.to_le_bytes()[..n]` has no more than eight bytes; a promise is not given up.
     pub fn put_le(&mut self, v: u64, n: usize)
-        requires { n ≤ 8 }
         ensures { Puts self.old (to_le_bytes n v) self.new }
     {
-        self.put(&v.to_le_bytes()[..n]);
+        let mut rest = v;
+        for _ in 0..n {
+            self.put_byte(rest.to_le_bytes()[0]);
+            rest /= 256;
+        }
     }
 }

@@ -1,17 +1,18 @@
 -- Signed numbers of 64 bits: what the code computes is what the definitions `as_i64` and `wrap` say. Assumes nothing.
-use Rattle.std.proofs.Common.{◌≡◌, ℕ, suc, ◌-◌, ◌%◌, ◌^◌, ◌<◌, ◌≤◌, ℤ, pos, negsuc, ◌+ℤ◌, ◌-ℤ◌, neg_ℤ, sym, refl, ap}
+use Rattle.std.proofs.Common.{◌≡◌, ℕ, suc, ◌+◌, ◌-◌, ◌%◌, ◌^◌, ◌<◌, ◌≤◌, ℤ, pos, negsuc, ◌+ℤ◌, ◌-ℤ◌, neg_ℤ, sym, refl, ap}
 use Rattle.std.proofs.Common.{◌∙◌, mod-lt, mod-eq_of_lt, arith, w64, SFits, to_z, of_z, le-ltb}
 use Rattle.std.proofs.Common.{lt-ltb}
 use native.Mathlib.Nat.{mod-mod}
 use native.Mathlib.Decide.{dec_lt}
 use mathlib.Core.Logic.{by_cases}
+use lib.IntN.{+ℤ_idl}
 use lib.Signed.{mag}
 use mir.ValLaws.{to_z-of_z, to_z_pos}
 use Rattle.reference.specs.Numbers.{as_i64, wrap}
 use Rattle.laws.proofs.Scans.{if-true, if-false}
 use Rattle.numbers.specs.Bits.{bits_of}
-use Rattle.std.specs.Int.{cast_signed, int_wrap, int_wrapping_add, int_wrapping_sub, int_wrapping_neg}
-use Rattle.std.proofs.lemmas.Int.{wrapping_add_is, wrapping_sub_is, wrapping_neg_is}
+use Rattle.std.specs.Int.{cast_signed, cast_unsigned, int_wrapping_add, int_wrapping_sub, int_wrapping_neg}
+use Rattle.numbers.proofs.Bits.{bits_below, bits_add, bits_sub}
 
 -- ---- `as i64`
 
@@ -61,17 +62,40 @@ signed-std n h =
     (λ l. to_z_pos w64 n l ∙ sym (as_low n l))
     (λ l. to_z_high n (omega arith) h ∙ sym (as_high n (omega arith) h))
 
-pub wrap-std : (z : ℤ) → int_wrap w64 z ≡ wrap z
-unfolding int_wrap wrap as_i64
-wrap-std (pos n) = signed-std (n % 2 ^ 64) (mod-lt n (omega arith)) ∙ rw (mod-mod n (2 ^ 64))
-wrap-std (negsuc n) = ap (cast_signed w64) (omega arith) ∙ signed-std (2 ^ 64 - suc (n % 2 ^ 64)) (omega arith)
+-- ---- sums, differences and negations, through the bits: of any width (Bits), and here of 64
+
+bits-std : (z : ℤ) → SFits w64 z → cast_unsigned w64 z ≡ bits_of 64 z
+unfolding bits_of
+bits-std (pos n) f = sym (mod-eq_of_lt (omega arith))
+bits-std (negsuc n) f = let e : n % 2 ^ 64 ≡ n = mod-eq_of_lt (omega arith) in rw e (omega arith)
+
+-- a number that has the bits of z, read as std reads it, is z wrapped
+from_bits : (z : ℤ) (x : ℕ) → x ≡ bits_of 64 z → cast_signed w64 x ≡ wrap z
+from_bits z x e = ap (cast_signed w64) e ∙ signed-std (bits_of 64 z) (bits_below 64 z) ∙ sym (wrap_bits z)
+
+-- what std subtracts, and what is added to it again
+less_and_more : (p q : ℕ) → p < 2 ^ 64 → q < 2 ^ 64 → ((p + (2 ^ 64 - q)) % 2 ^ 64 + q) % 2 ^ 64 ≡ p
+less_and_more p q f g =
+    by_cases (dec_lt p q)
+    (λ l.
+    let e : (p + (2 ^ 64 - q)) % 2 ^ 64 ≡ p + (2 ^ 64 - q) = mod-eq_of_lt (omega arith) in
+    omega (arith, e))
+    (λ l. omega arith)
 
 module _ (a b : ℤ) (f : SFits w64 a) (g : SFits w64 b) where
   pub sum_wraps : int_wrapping_add w64 a b ≡ wrap (a +ℤ b)
-  sum_wraps = wrapping_add_is w64 a b f g ∙ wrap-std (a +ℤ b)
+  sum_wraps = from_bits (a +ℤ b) ((cast_unsigned w64 a + cast_unsigned w64 b) % 2 ^ 64) (rw (bits-std a f, bits-std b g) (sym (bits_add 64 a b)))
 
   pub difference-wraps : int_wrapping_sub w64 a b ≡ wrap (a -ℤ b)
-  difference-wraps = wrapping_sub_is w64 a b f g ∙ wrap-std (a -ℤ b)
+  difference-wraps =
+      from_bits (a -ℤ b) ((cast_unsigned w64 a + (2 ^ 64 - cast_unsigned w64 b)) % 2 ^ 64)
+      (rw (bits-std a f, bits-std b g)
+      (bits_sub 64 a b _ (mod-lt _ (omega arith)) (less_and_more (bits_of 64 a) (bits_of 64 b) (bits_below 64 a) (bits_below 64 b))))
 
 pub negation_wraps : (v : ℤ) → SFits w64 v → int_wrapping_neg w64 (to_z w64 (of_z w64 v)) ≡ wrap (neg_ℤ v)
-negation_wraps v f = ap (int_wrapping_neg w64) (kept v f) ∙ wrapping_neg_is w64 v f ∙ wrap-std (neg_ℤ v)
+negation_wraps v f =
+    let e : 2 ^ 64 - cast_unsigned w64 v ≡ 0 + (2 ^ 64 - cast_unsigned w64 v) = omega arith in
+    ap (int_wrapping_neg w64) (kept v f)
+    ∙ ap (λ (k : ℕ). cast_signed w64 (k % 2 ^ 64)) e
+    ∙ difference-wraps (pos 0) v (record { sfits = omega arith }) f
+    ∙ ap wrap (+ℤ_idl (neg_ℤ v))

@@ -30,19 +30,17 @@ use Rattle.lines.specs.Fams.{fam_text, Known}
 use Rattle.lines.proofs.shapes.Places.{found_is, found-not}
 use Rattle.plan.specs.declared.definitions.Definition.{Definition}
 use Rattle.plan.specs.Definitions.{definition_in, Sound, Defines}
-use Rattle.plan.specs.Reaches.{last_of}
+use Rattle.plan.specs.Reaches.{reach}
+use Rattle.plan.specs.declared.reaches.Reach.{Reach}
+use Rattle.std.proofs.Common.{ControlFlow}
 use Rattle.plan.specs.declared.plans.Join.{Join}
 use Rattle.plan.specs.Plans.{plan_among, Plans}
 use Rattle.plan.proofs.Reaching.{line_at}
 use Rattle.std.specs.Prelude as std
 use Rattle.std.specs.Prelude.{Some, None}
 use Rattle.reference.specs.Options.{option_of}
-use Rattle.reference.proofs.Cases.{some_inj}
 
 -- ---- plans
-
-found_never : {k : ℕ} {X : Type 0} → none ≡ some k → X
-found_never e = absurd (let z : ◌≡◌ {A = ℕ} 0 1 = cc in omega arith)
 
 do_inj : {j k : Join} → Some j ≡ Some k → j ≡ k
 do_inj e = cc
@@ -73,71 +71,57 @@ module _ {tape area : Text} {ws : List ℕ} {d : Definition} (h : Sound tape are
 
 -- ---- a constant
 
--- q is the last line that a constant reaches, if a line uses it
-last_none : (r : J.Reach) {q : std.Option ℕ} → option_of q ≡ last_of r → q ≡ None → r.used ≡ false
-unfolding last_of when◌then◌else◌
-last_none r e f = by r.used refl
-  where
-    by : (u : Bool) → u ≡ r.used → r.used ≡ false
-    by false g = sym g
-    by true g = absurd (let z : none ≡ some r.last = rw (f, ← g) at e in found_never z)
+-- r is how far the search q has come, ended or not
+abbrev ComeTo : ControlFlow Reach Reach → Reach → Type 0
+ComeTo q r = r ≡ record { used = (reach q).used; last = (reach q).last }
 
-last_some : (r : J.Reach) {q : std.Option ℕ} {k : ℕ} → option_of q ≡ last_of r → q ≡ Some k → (r.used ≡ true) × (r.last ≡ k)
-unfolding last_of when◌then◌else◌
-last_some r {k = k} e f = by r.used refl
-  where
-    by : (u : Bool) → u ≡ r.used → (r.used ≡ true) × (r.last ≡ k)
-    by true g = let z : some k ≡ some r.last = rw (f, ← g) at e in (sym g, sym (some_inj z))
-    by false g = absurd (let z : some k ≡ none = rw (f, ← g) at e in found_never (sym z))
-
-module _ (tape area : Text) (tokens lines : List ℕ) (i : ℕ) (fam : Text) (vs : List Text) (h : i < length lines)
-    {q : std.Option ℕ} (eq : option_of q ≡ last_of (reach_of (bare_listing tape area tokens lines) i fam vs)) {k : ℕ} (e : q ≡ Some k) where
-  pub reach-inside : k < length lines
+module _ (tape area : Text) (tokens lines : List ℕ) (i : ℕ) (fam : Text) (vs : List Text) (h : i < length lines) (q : ControlFlow Reach Reach)
+    (e : reach q ≡ reach_of (bare_listing tape area tokens lines) i fam vs) {r : Reach} (er : ComeTo q r) where
+  pub reach-inside : r.last < length lines
   reach-inside =
       let b = (reach-reached (bare_listing tape area tokens lines) i fam vs (rw length-map h)).0 in
       let c : (reach_of (bare_listing tape area tokens lines) i fam vs).last < length lines = rw length-map at b in
-      rw ((last_some _ eq e).1) at c
+      rw (er, e) c
 
-module _ (tape area : Text) (tokens lines : List ℕ) (i : ℕ) (d : Definition) (labels : Labels) (vs : List Text) where
+module _ (tape area : Text) (tokens lines : List ℕ) (i : ℕ) (d : Definition) (labels : Labels) (vs : List Text) (q : ControlFlow Reach Reach)
+    (e : reach q ≡ reach_of (bare_listing tape area tokens lines) i (fam_text tape area d.name.family) vs) {r : Reach} (er : ComeTo q r) where
   abbrev constant : Option J.Plan
   constant = plan_constant (bare_listing tape area tokens lines) i (definition_in tape area (part_of tokens (get_or lines i 0)) d) labels vs
 
-  module _ {q : std.Option ℕ} (eq : option_of q ≡ last_of (reach_of (bare_listing tape area tokens lines) i (fam_text tape area d.name.family) vs)) where
-    pub constant_unused : q ≡ None → {p : std.Option Join} → p ≡ None → Plans tape area (part_of tokens (get_or lines i 0)) i constant p
-    unfolding plan_constant plan_reach when◌then◌else◌ ◌and◌
-    constant_unused t = no_plan (rw (last_none _ eq t))
+  -- by the three tests
+  constant_is : constant
+      ≡ (when r.used and ends_at (bare_listing tape area tokens lines) i (fam_text tape area d.name.family) labels vs r.last
+      and all_take (fam_text tape area d.name.family) vs (slice (suc i) (suc r.last) (bare_listing tape area tokens lines))
+      then some (record {
+        fam = fam_text tape area d.name.family;
+        expr = tokens_of tape area (expr_words (part_of tokens (get_or lines i 0)) d.expr);
+        last = r.last;
+        brackets = false;
+      })
+      else none)
+  unfolding plan_constant plan_reach
+  constant_is = rw (er, ← e)
 
-    module _ {k : ℕ} (e : q ≡ Some k) where
-      -- by the two tests
-      constant_is : constant
-          ≡ (when ends_at (bare_listing tape area tokens lines) i (fam_text tape area d.name.family) labels vs k
-          and all_take (fam_text tape area d.name.family) vs (slice (suc i) (suc k) (bare_listing tape area tokens lines))
-          then some (record {
-            fam = fam_text tape area d.name.family;
-            expr = tokens_of tape area (expr_words (part_of tokens (get_or lines i 0)) d.expr);
-            last = k;
-            brackets = false;
-          })
-          else none)
-      unfolding plan_constant plan_reach ◌and◌
-      constant_is = rw ((last_some _ eq e).0, (last_some _ eq e).1)
+  pub constant_unused : r.used ≡ false → {p : std.Option Join} → p ≡ None → Plans tape area (part_of tokens (get_or lines i 0)) i constant p
+  unfolding when◌then◌else◌ ◌and◌
+  constant_unused t = no_plan (constant_is ∙ rw t)
 
-      module _ {a : Bool} (ea : a ≡ ends_at (bare_listing tape area tokens lines) i (fam_text tape area d.name.family) labels vs k) where
-        pub constant-live : a ≡ false → {p : std.Option Join} → p ≡ None → Plans tape area (part_of tokens (get_or lines i 0)) i constant p
-        unfolding when◌then◌else◌ ◌and◌
-        constant-live t = no_plan (constant_is ∙ rw (← ea, t))
+  module _ (u : r.used ≡ true) {a : Bool} (ea : a ≡ ends_at (bare_listing tape area tokens lines) i (fam_text tape area d.name.family) labels vs r.last) where
+    pub constant-live : a ≡ false → {p : std.Option Join} → p ≡ None → Plans tape area (part_of tokens (get_or lines i 0)) i constant p
+    unfolding when◌then◌else◌ ◌and◌
+    constant-live t = no_plan (constant_is ∙ rw (u, ← ea, t))
 
-        module _ (ta : a ≡ true) {b : Bool}
-            (eb : b ≡ all_take (fam_text tape area d.name.family) vs (slice (suc i) (suc k) (bare_listing tape area tokens lines))) where
-          pub constant_refused : b ≡ false → {p : std.Option Join} → p ≡ None → Plans tape area (part_of tokens (get_or lines i 0)) i constant p
-          unfolding when◌then◌else◌ ◌and◌
-          constant_refused t = no_plan (constant_is ∙ rw (← ea, ta, ← eb, t))
+    module _ (ta : a ≡ true) {b : Bool}
+        (eb : b ≡ all_take (fam_text tape area d.name.family) vs (slice (suc i) (suc r.last) (bare_listing tape area tokens lines))) where
+      pub constant_refused : b ≡ false → {p : std.Option Join} → p ≡ None → Plans tape area (part_of tokens (get_or lines i 0)) i constant p
+      unfolding when◌then◌else◌ ◌and◌
+      constant_refused t = no_plan (constant_is ∙ rw (u, ← ea, ta, ← eb, t))
 
-          pub constant-joins : b ≡ true → Sound tape area (part_of tokens (get_or lines i 0)) d → {p : Join}
-              → p ≡ record { line = i; last = k; brackets = false; family = d.name.family; expr = d.expr }
-              → Plans tape area (part_of tokens (get_or lines i 0)) i constant (Some p)
-          unfolding when◌then◌else◌ ◌and◌
-          constant-joins t h ep = join_plan d h k false (constant_is ∙ rw (← ea, ta, ← eb, t)) ep
+      pub constant-joins : b ≡ true → Sound tape area (part_of tokens (get_or lines i 0)) d → {p : Join}
+          → p ≡ record { line = i; last = r.last; brackets = false; family = d.name.family; expr = d.expr }
+          → Plans tape area (part_of tokens (get_or lines i 0)) i constant (Some p)
+      unfolding when◌then◌else◌ ◌and◌
+      constant-joins t h ep = join_plan d h r.last false (constant_is ∙ rw (u, ← ea, ta, ← eb, t)) ep
 
 -- ---- a single use
 

@@ -21,19 +21,18 @@ use Rattle.linefacts.proofs.Lacking.{save-calls_kw, save-calls_brace, save-calls
 use Rattle.linefacts.proofs.Lacking.{calling_keeps}
 use Rattle.life.specs.declared.touches.Touched.TheVariants.{Nothing, Kill as Kills}
 use Rattle.plan.specs.declared.definitions.Definition.{Definition}
-use Rattle.plan.specs.Reaches.{reached, Reaches}
+use Rattle.plan.specs.Reaches.{reach, reached}
+use Rattle.plan.specs.declared.reaches.Reach.{Reach}
 use Rattle.plan.specs.Definitions.{definition_in}
 use Rattle.plan.specs.Uses.{same_run, leaves_inputs}
 use Rattle.plan.proofs.Reaching.{reach_kill, reach_goes}
-use Rattle.std.specs.Prelude as std
-use Rattle.std.specs.Option.{option_and}
-use Rattle.std.proofs.Common.{Break, inl}
+use Rattle.std.proofs.Common.{Continue, Break, inl}
 use Rattle.plan.proofs.Looking.{look_kill, look_stop, look_pass, look-other}
 
 -- ---- a constant's reach: k is the indent of the line
 
 module _ {tape area : Text} {tokens : List ℕ} {l n : ℕ} (fam : Text) (h : Lined tape area tokens l) (en : n ≡ family_number fam) {k : ℕ} (ek : k ≡ indent_of l)
-    {base : ℕ} (e : k ≡ base) (j : ℕ) (vs : List Text) (o : std.Option ℕ) where
+    {base : ℕ} (e : k ≡ base) (j : ℕ) (vs : List Text) (o : Reach) where
   -- a line that lacks the family and control flow
   runs_on : is_transparent_save_calls l n ≡ true → false ≡ ends_run base (bare_in tape area tokens l)
   unfolding ends_run ◌or◌ not
@@ -41,23 +40,23 @@ module _ {tape area : Text} {tokens : List ℕ} {l n : ℕ} (fam : Text) (h : Li
       rw (save-calls-label fam h en st, ← ek, eq-eqb k base e, save-calls_kw fam h en st (bytes "while"), save-calls_kw fam h en st (bytes "goto"))
 
   reach-on : is_transparent_save_calls l n ≡ true → touch_of (tokens_of tape area (part_of tokens l)) fam vs ≡ None
-      → (i : ℕ) → reach_at base fam vs j (bare_in tape area tokens l) (reached i o) ≡ reached i o
+      → reach (Continue o) ≡ reach_at base fam vs j (bare_in tape area tokens l) (reached o)
   reach-on st f =
       reach_goes tape area tokens l j base fam vs o (runs_on st) refl refl {q = Nothing} (sym f) (inl (refl, refl)) (sym (save-calls_brace fam h en st)) refl
 
   -- x is the answer of `is_transparent`
   pub reach_transparent : {x : Bool} → x ≡ is_transparent l n → x ≡ true
-      → (i : ℕ) → reach_at base fam vs j (bare_in tape area tokens l) (reached i o) ≡ reached i o
+      → reach (Continue o) ≡ reach_at base fam vs j (bare_in tape area tokens l) (reached o)
   reach_transparent ex t = reach-on (transparent_save_calls fam h en ex t) (transparent_touch fam h en ex t vs)
 
   -- x is the answer of `is_calling`, v whether calls overwrite the family
   module _ {x : Bool} (ex : x ≡ is_calling l n) (t : x ≡ true) {v : Bool} (ev : v ≡ has vs fam) where
-    pub reach-calling : v ≡ true → {r : std.Option ℕ} → r ≡ option_and o (std.Some j)
-        → (i : ℕ) → Reaches i (Break r) (reach_at base fam vs j (bare_in tape area tokens l) (reached i o))
+    pub reach-calling : v ≡ true
+        → reach (Break (record { used = o.used; last = j })) ≡ reach_at base fam vs j (bare_in tape area tokens l) (reached o)
     reach-calling f =
         reach_kill tape area tokens l j base fam vs o (runs_on (calling-save-calls fam h en ex t)) refl refl {q = Kills} (sym (calling-kills fam h en ex t vs ev f)) refl
 
-    pub reach_keeping : v ≡ false → (i : ℕ) → reach_at base fam vs j (bare_in tape area tokens l) (reached i o) ≡ reached i o
+    pub reach_keeping : v ≡ false → reach (Continue o) ≡ reach_at base fam vs j (bare_in tape area tokens l) (reached o)
     reach_keeping f = reach-on (calling-save-calls fam h en ex t) (calling_keeps fam h en ex t vs ev f)
 
 -- ---- the search for a single use: the line l, for the family of the definition d of the line s; i is the indent of s

@@ -42,13 +42,9 @@ use Rattle.lines.proofs.words.Lines.{bare_at}
 use Rattle.life.specs.declared.touches.Touched.{Touched}
 use Rattle.life.specs.declared.touches.Touched.TheVariants.{Nothing, Kill, Use}
 use Rattle.life.specs.Touches.{touched}
-use Rattle.plan.specs.Reaches.{last_of, reached, Reaches}
-use Rattle.std.specs.Prelude as std
+use Rattle.plan.specs.Reaches.{reach, reached}
+use Rattle.plan.specs.declared.reaches.Reach.{Reach}
 use Rattle.std.proofs.Common.{ControlFlow, Continue, Break, ◌⊎◌, inl, inr, ap}
-use Rattle.std.specs.Option.{option_and}
-use Rattle.joining.specs.Plan as J
-use Rattle.reference.specs.Options.{option_of}
-use mathlib.Core.Option.{some, none}
 
 -- ---- a place in the listing
 
@@ -64,102 +60,69 @@ module _ (tape area : Text) (tokens lines : List ℕ) where
 
 -- ---- one line
 
--- a reach that goes on, and what is told of it
-going : (i : ℕ) (o : std.Option ℕ) → (reached i o).ended ≡ false
-going i std.None = refl
-going i (std.Some k) = refl
+-- r is the reach, o being that before line j, which touches it so
+abbrev pub Looks : ℕ → Reach → Touched → Reach → Type 0
+Looks j o q r = ((q ≡ Nothing) × (r ≡ o)) ⊎ ((n : ℕ) × (q ≡ Use n) × (r ≡ record { used = true; last = j }))
 
-told-last : (i : ℕ) (o : std.Option ℕ) → option_of o ≡ last_of (reached i o)
-unfolding last_of when◌then◌else◌
-told-last i std.None = refl
-told-last i (std.Some k) = refl
-
--- r is the last line that uses the constant, o being that line before line j, which touches it so
-abbrev pub Looks : ℕ → std.Option ℕ → Touched → std.Option ℕ → Type 0
-Looks j o q r = ((q ≡ Nothing) × (r ≡ o)) ⊎ ((n : ℕ) × (q ≡ Use n) × (r ≡ std.Some j))
-
-module _ (tape area : Text) (tokens : List ℕ) (l j base : ℕ) (fam : Text) (vs : List Text) (o : std.Option ℕ)
+module _ (tape area : Text) (tokens : List ℕ) (l j base : ℕ) (fam : Text) (vs : List Text) (o : Reach)
     {x : Bool} (ex : x ≡ ends_run base (bare_in tape area tokens l)) where
-  abbrev pub Looked : ControlFlow (std.Option ℕ) (std.Option ℕ) → Type 0
-  Looked r = (i : ℕ) → Reaches i r (reach_at base fam vs j (bare_in tape area tokens l) (reached i o))
+  abbrev pub Looked : ControlFlow Reach Reach → Type 0
+  Looked r = reach r ≡ reach_at base fam vs j (bare_in tape area tokens l) (reached o)
 
   pub reach-ends : x ≡ true → Looked (Break o)
-  unfolding reach_at when◌then◌else◌ last_of
-  reach-ends t i = (rw (← ex, t), rw (← ex, t) (told o))
-    where
-      told : (o : std.Option ℕ) → option_of o ≡ (when (reached i o).used then some (reached i o).last else none)
-      told std.None = refl
-      told (std.Some k) = refl
+  unfolding reach_at when◌then◌else◌
+  reach-ends t = rw (← ex, t)
 
   module _ (t : x ≡ false) {ws : List ℕ} (ew : ws ≡ part_of tokens l) {q : Touched} (eq : touched q ≡ touch_of (tokens_of tape area ws) fam vs) where
-    pub reach_kill : q ≡ Kill → {r : std.Option ℕ} → r ≡ option_and o (std.Some j) → Looked (Break r)
-    unfolding reach_at when◌then◌else◌ match_touch last_of
-    reach_kill e er i = (rw (← ex, t, ← ew, ← eq, e), rw (← ex, t, ← ew, ← eq, e, er) (told o))
-      where
-        told : (o : std.Option ℕ) → option_of (option_and o (std.Some j)) ≡ (when (reached i o).used then some j else none)
-        told std.None = refl
-        told (std.Some k) = refl
+    pub reach_kill : q ≡ Kill → Looked (Break (record { used = o.used; last = j }))
+    unfolding reach_at when◌then◌else◌ match_touch
+    reach_kill e = rw (← ex, t, ← ew, ← eq, e)
 
-    -- r is the last line that uses it, with this one; b is whether the line has a brace
-    module _ {r : std.Option ℕ} (er : Looks j o q r) {b : Bool} (eb : b ≡ braces_in (tokens_of tape area ws)) where
-      reach-is : (i : ℕ) → reach_at base fam vs j (bare_in tape area tokens l) (reached i o) ≡ record { used = (reached i r).used; last = (reached i r).last; ended = b }
+    -- r is the reach with this line; b is whether the line has a brace
+    module _ {r : Reach} (er : Looks j o q r) {b : Bool} (eb : b ≡ braces_in (tokens_of tape area ws)) where
+      reach-is : record { used = r.used; last = r.last; ended = b } ≡ reach_at base fam vs j (bare_in tape area tokens l) (reached o)
       unfolding reach_at when◌then◌else◌ match_touch
-      reach-is i = elim er [ inl h ↦ rw (← ex, t, ← ew, ← eq, h.0, ← eb, h.1) | inr h ↦ rw (← ex, t, ← ew, ← eq, h.1, ← eb, h.2) ]
+      reach-is = elim er [ inl h ↦ rw (← ex, t, ← ew, ← eq, h.0, ← eb, h.1) | inr h ↦ rw (← ex, t, ← ew, ← eq, h.1, ← eb, h.2) ]
 
       pub reach-breaks : b ≡ true → Looked (Break r)
-      unfolding last_of when◌then◌else◌
-      reach-breaks f i = rw (reach-is i, f) (refl, told r)
-        where
-          told : (o : std.Option ℕ) → option_of o ≡ (when (reached i o).used then some (reached i o).last else none)
-          told std.None = refl
-          told (std.Some k) = refl
+      reach-breaks f = rw f at reach-is
 
       pub reach_goes : b ≡ false → Looked (Continue r)
-      reach_goes f i = reach-is i ∙ rw f (same r)
-        where
-          same : (o : std.Option ℕ) → ◌≡◌ {A = J.Reach} (record { used = (reached i o).used; last = (reached i o).last; ended = false }) (reached i o)
-          same std.None = refl
-          same (std.Some k) = refl
+      reach_goes f = rw f at reach-is
 
 -- ---- the lines, one after the other
 
 module _ (tape area : Text) (tokens lines : List ℕ) (i : ℕ) (fam : Text) (vs : List Text) where
   -- what is reached from line j on
-  abbrev pub Reached : ℕ → std.Option ℕ → Type 0
+  abbrev pub Reached : ℕ → Reach → Type 0
   Reached j o =
       reach_of (bare_listing tape area tokens lines) i fam vs
-      ≡ reach_from (indent_of (get_or lines i 0)) fam vs j (drop j (bare_listing tape area tokens lines)) (reached i o)
+      ≡ reach_from (indent_of (get_or lines i 0)) fam vs j (drop j (bare_listing tape area tokens lines)) (reached o)
 
-  pub reached_begin : i < length lines → Reached (i + 1) std.None
+  pub reached_begin : i < length lines → Reached (i + 1) (record { used = false; last = i })
   unfolding reach_of
   reached_begin h = rw (add-one, line_at tape area tokens lines i h)
 
-  module _ (j : ℕ) (o : std.Option ℕ) (inv : Reached j o) where
-    pub reached_end : length lines ≤ j → option_of o ≡ last_of (reach_of (bare_listing tape area tokens lines) i fam vs)
-    reached_end b =
-        told-last i o ∙ ap last_of (sym (inv ∙ reach_end (indent_of (get_or lines i 0)) fam vs (bare_listing tape area tokens lines) j (reached i o) (line_past tape area tokens lines b)))
+  module _ (j : ℕ) (o : Reach) (inv : Reached j o) where
+    pub reached_end : length lines ≤ j → reach (Continue o) ≡ reach_of (bare_listing tape area tokens lines) i fam vs
+    reached_end b = sym (inv ∙ reach_end (indent_of (get_or lines i 0)) fam vs (bare_listing tape area tokens lines) j (reached o) (line_past tape area tokens lines b))
 
-    module _ (b : j < length lines) {base : ℕ} (eb : base ≡ indent_of (get_or lines i 0)) where
+    module _ (b : j < length lines) {base : ℕ} (eb : base ≡ indent_of (get_or lines i 0)) (q : ControlFlow Reach Reach)
+        (h : reach q ≡ reach_at base fam vs j (bare_in tape area tokens (get_or lines j 0)) (reached o)) where
       turned : reach_of (bare_listing tape area tokens lines) i fam vs
-          ≡ reach_from (indent_of (get_or lines i 0)) fam vs (j + 1) (drop (j + 1) (bare_listing tape area tokens lines))
-          (reach_at base fam vs j (bare_in tape area tokens (get_or lines j 0)) (reached i o))
+          ≡ reach_from (indent_of (get_or lines i 0)) fam vs (j + 1) (drop (j + 1) (bare_listing tape area tokens lines)) (reach q)
       turned =
           inv
-          ∙ reach_turn (indent_of (get_or lines i 0)) fam vs (bare_listing tape area tokens lines) j (reached i o) (line_below tape area tokens lines b) (going i o)
-          ∙ rw (line_at tape area tokens lines j b, eb)
+          ∙ reach_turn (indent_of (get_or lines i 0)) fam vs (bare_listing tape area tokens lines) j (reached o) (line_below tape area tokens lines b) refl
+          ∙ rw (line_at tape area tokens lines j b, h, eb)
 
-      module _ {q : ControlFlow (std.Option ℕ) (std.Option ℕ)}
-          (h : (k : ℕ) → Reaches k q (reach_at base fam vs j (bare_in tape area tokens (get_or lines j 0)) (reached k o))) {r : std.Option ℕ} where
-        pub reached-next : q ≡ Continue r → Reached (j + 1) r
-        reached-next e = turned ∙ ap (reach_from (indent_of (get_or lines i 0)) fam vs (j + 1) (drop (j + 1) (bare_listing tape area tokens lines))) (rw e at (h i))
+      pub reached-next : {r : Reach} → q ≡ Continue r → Reached (j + 1) r
+      reached-next e = rw e at turned
 
-        pub reached-ended : q ≡ Break r → option_of r ≡ last_of (reach_of (bare_listing tape area tokens lines) i fam vs)
-        reached-ended e =
-            let g = rw e at (h i) in
-            g.1
-            ∙ ap last_of (sym (turned
-            ∙ reach-ended (indent_of (get_or lines i 0)) fam vs (j + 1) (drop (j + 1) (bare_listing tape area tokens lines))
-            (reach_at base fam vs j (bare_in tape area tokens (get_or lines j 0)) (reached i o)) g.0))
+      pub reached-ended : {r : Reach} → q ≡ Break r → reach (Break r) ≡ reach_of (bare_listing tape area tokens lines) i fam vs
+      reached-ended {r} e =
+          sym ((rw e at turned)
+          ∙ reach-ended (indent_of (get_or lines i 0)) fam vs (j + 1) (drop (j + 1) (bare_listing tape area tokens lines)) (reach (Break r)) refl)
 
 -- ---- the first token
 

@@ -1,26 +1,28 @@
 // The plan of an attempt: `propagate_constant` and `try_at` of the Rust, up to where they change the listing.
-ghost use Rattle.std.specs.Prelude.{◌≡◌, ◌<◌, length, get_or};
+ghost use Rattle.std.specs.Prelude.{◌≡◌, ◌<◌, length};
 ghost use Rattle.reference.specs.Rules.{volatile};
 ghost use Rattle.reference.specs.Join.{is_bracketed};
 ghost use Rattle.joining.specs.Plan.{wants_brackets, plan_constant, plan_use, plan_single, plan_for, decide};
 ghost use Rattle.ground.specs.Rules.{rules_of};
 ghost use Rattle.lines.specs.Shapes.{expr_words, Expression};
 ghost use Rattle.life.specs.Labels.{Labelled, labels_of};
-ghost use Rattle.lines.specs.Lines.{indent_of};
 ghost use Rattle.plan.specs.Plans.{plan_among};
+ghost use Rattle.plan.specs.Reaches.{reach};
 ghost use Rattle.plan.specs.Texts.{Plans, Slotted, Sound, definition_in, slot_names};
 ghost use Rattle.lines.specs.Texts.{Holds, Listed, bare_listing, tokens_of, words_at};
 
 use crate::definitions::{Definition, definition_of};
+use crate::reaches::Reach;
 use crate::slots::{SlotNames, is_addressed};
 use crate::{reaches, uses};
 use ground::rules::Rules;
-use life::{Followed, LabelledListing, dead_after};
+use life::{LabelledListing, dead_after};
 use lines::fams::Fam;
 use lines::shapes::Expr;
 use lines::texts::{Listing, Texts};
 use lines::traits::Kw;
 use lines::{fams, shapes, words};
+use std::ops::ControlFlow;
 
 // The right side of line `line` takes the place of each token of the family in each line after it, up to line `last`, that uses the family,
 // in brackets or without; and the line is removed. (Where the right side is not a constant, that is one token in one line.)
@@ -53,16 +55,12 @@ fn join_of(i: usize, last: usize, brackets: bool, d: Definition) -> Join
     }
 }
 
-// The value that the definition d of line i gives its family.
-fn followed(listing: &Listing<'_>, i: usize, d: Definition, rules: Rules) -> Followed
-    requires { i < length listing.now.lines.now }
-    ensures { result ≡ record { family = d.name.family; indent = indent_of (get_or listing.now.lines.now i 0); start = i; rules = rules } }
+// How far a search for a constant's reach has come, ended or not.
+fn come_to(search: ControlFlow<Reach, Reach>) -> Reach
+    ensures { result ≡ record { used = (reach search).used; last = (reach search).last } }
 {
-    Followed {
-        family: d.name.family,
-        indent: words::indent(listing.lines[i]),
-        start: i,
-        rules,
+    match search {
+        ControlFlow::Continue(r) | ControlFlow::Break(r) => r,
     }
 }
 
@@ -80,10 +78,13 @@ fn propagate_constant(
         (definition_in scope.now.listing.texts (words_at scope.now.listing i) d)
         (labels_of scope.now) (volatile (rules_of rules))) result }
 {
-    let v = followed(&scope.listing, i, d, rules);
-    let last = reaches::reach_of(&scope.listing, v)?;
-    if reaches::ends_at(scope, last, v) && reaches::all_take(&scope.listing, last, v) {
-        Some(join_of(i, last, false, d))
+    let family = d.name.family;
+    let r = come_to(reaches::reach_of(&scope.listing, i, family, rules));
+    if r.used
+        && reaches::ends_at(scope, i, r.last, family, rules)
+        && reaches::all_take(&scope.listing, i, r.last, family, rules)
+    {
+        Some(join_of(i, r.last, false, d))
     } else {
         None
     }
@@ -159,7 +160,7 @@ fn plan_use(
         (labels_of scope.now) (volatile (rules_of rules)) j) result }
 {
     let line = words::line_of(scope.listing.tokens, scope.listing.lines[j]);
-    let v = followed(&scope.listing, i, d, rules);
+    let v = reaches::followed(&scope.listing, i, d.name.family, rules);
     if shapes::has_kw(&scope.listing.texts, line, Kw::While) || !dead_after(scope, j, v) {
         return None;
     }

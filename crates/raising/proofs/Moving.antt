@@ -1,49 +1,43 @@
--- What moves up by one within a part of a list is what moves up so in the whole. Assumes nothing.
-use Prim.Native.Nat.{ℕ, zero, suc, ◌+◌, ◌-◌, ◌≤◌, ◌<◌}
+-- Items that move up by one, one after the other. Assumes nothing.
+use Prim.Native.Nat.{ℕ, suc, ◌+◌, ◌-◌, ◌<◌}
 use native.Mathlib.Omega.{arith}
-use mathlib.Core.Path.{◌≡◌, refl, sym, ap, ◌∙◌}
-use mathlib.Core.List.{List, [], ◌∷◌, ◌++◌, append_assoc}
-use lib.ListN.{length, take, drop, length-drop}
-use lib.Seq.{paste, take-take, drop-drop, length-take-le}
-use borrow.Rule.Slice.PartMut.{put_mid}
+use mathlib.Core.Path.{◌≡◌, sym, ap, ◌∙◌}
+use mathlib.Core.List.{List}
+use lib.ListN.{length, get_or, set, drop, length-drop}
+use lib.Seq.{paste, paste-zero, paste-suc, drop-paste, get_or-drop}
 use Rattle.std.specs.List.{copy_within}
 
-module _ {X : Type 0} where
-  seam : (m : ℕ) (ys : List X) → drop m (take (suc m) ys) ++ drop (suc m) ys ≡ drop m ys
-  seam zero [] = refl
-  seam zero (y ∷ ys) = refl
-  seam (suc m) [] = refl
-  seam (suc m) (y ∷ ys) = seam m ys
+module _ {X : Type 0} (xs : List X) (i : ℕ) where
+  pub none_moved : xs ≡ copy_within xs (i + 1) (i + 1) i
+  none_moved =
+      let none : 0 ≡ i + 1 - (i + 1) = omega arith in
+      paste-zero xs i (drop (i + 1) xs) ∙ ap (paste xs i (drop (i + 1) xs)) none
 
-  later : (m : ℕ) (ys : List X) → take m (drop 1 (take (suc m) ys)) ≡ take m (drop 1 ys)
-  later m [] = refl
-  later m (y ∷ ys) = take-take m m ys (omega arith)
+  -- j items have moved, and the next one, which is read ahead of them, follows
+  follows : (j : ℕ) (x : X) → i + 1 + j < length xs → x ≡ get_or (paste xs i (drop (i + 1) xs) j) (i + 1 + j) x
+      → set (paste xs i (drop (i + 1) xs) j) (i + j) x ≡ paste xs i (drop (i + 1) xs) (j + 1)
+  follows j x b read =
+      let behind : List X = drop (i + 1) xs in
+      let moved : List X = paste xs i behind j in
+      let long = length-drop (i + 1) xs in
+      let place : i + 1 + j ≡ i + j + 1 = omega arith in
+      let on : suc j ≡ j + 1 = omega arith in
+      let same : x ≡ get_or behind j x =
+      read ∙ ap (λ (k : ℕ). get_or moved k x) place ∙ sym (get_or-drop (i + j) moved 1 x)
+      ∙ ap (λ (l : List X). get_or l 1 x) (drop-paste xs i behind j (omega arith) (omega (arith, long, b))) ∙ get_or-drop (i + j) xs 1 x
+      ∙ ap (λ (k : ℕ). get_or xs k x) (sym place) ∙ sym (get_or-drop (i + 1) xs j x) in
+      ap (set moved (i + j)) same ∙ paste-suc xs i behind j x (omega (arith, long, b)) (omega (arith, b)) ∙ ap (paste xs i behind) on
 
-  within : (m : ℕ) (ys : List X) → copy_within (take (suc m) ys) 1 (suc m) 0 ≡ take m (drop 1 ys) ++ drop m (take (suc m) ys)
-  within m ys =
-      let part : List X = take (suc m) ys in
-      let less : suc m - 1 ≡ m = omega arith in
-      let on : 0 + m ≡ m = omega arith in
-      ap (λ (n : ℕ). paste part 0 (drop 1 part) n) less ∙ ap (λ (n : ℕ). take m (drop 1 part) ++ drop n part) on
-      ∙ ap (λ (l : List X). l ++ drop m part) (later m ys)
-
-  put : (m i : ℕ) (xs : List X) {ws : List X} → ws ≡ copy_within (take (suc m) (drop i xs)) 1 (suc m) 0
-      → put_mid i (suc m) xs ws ≡ paste xs i (drop (i + 1) xs) m
-  put m i xs e =
-      let ys : List X = drop i xs in
-      let first : List X = take m (drop 1 ys) in
-      ap (λ (l : List X). take i xs ++ (l ++ drop (suc m) ys)) (e ∙ within m ys)
-      ∙ ap (λ (l : List X). take i xs ++ l) (append_assoc first (drop m (take (suc m) ys)) (drop (suc m) ys) ∙ ap (λ (l : List X). first ++ l) (seam m ys))
-      ∙ sym (append_assoc (take i xs) first (drop m ys))
-      ∙ ap (λ (l : List X). (take i xs ++ take m l) ++ drop m ys) (drop-drop 1 i xs)
-      ∙ ap (λ (l : List X). (take i xs ++ take m (drop (i + 1) xs)) ++ l) (drop-drop m i xs)
-
-  -- the places from i to n
-  pub moved_up : (xs : List X) (i n : ℕ) → i < n → n ≤ length xs → {ws : List X}
-      → let part = take (n - i) (drop i xs) in ws ≡ copy_within part 1 (length part) 0 → put_mid i (n - i) xs ws ≡ copy_within xs (i + 1) n i
-  moved_up xs i n h l {ws} e =
-      let m : ℕ = n - (i + 1) in
-      let k : n - i ≡ suc m = omega (arith, h) in
-      let long : length (take (n - i) (drop i xs)) ≡ n - i = length-take-le (n - i) (drop i xs) (omega (arith, length-drop i xs, l)) in
-      ap (λ (j : ℕ). put_mid i j xs ws) k
-      ∙ put m i xs (e ∙ ap (λ (j : ℕ). copy_within (take (n - i) (drop i xs)) 1 j 0) long ∙ ap (λ (j : ℕ). copy_within (take j (drop i xs)) 1 j 0) k)
+  -- item k follows those before it
+  pub one-more : (k : ℕ) (x : X) {ws : List X} → i < k → k < length xs → ws ≡ copy_within xs (i + 1) k i → x ≡ get_or ws k x
+      → set ws (k - 1) x ≡ copy_within xs (i + 1) (k + 1) i
+  one-more k x h b e read =
+      let j : ℕ = k - (i + 1) in
+      let from : i + 1 + j ≡ k = omega (arith, h) in
+      let to : i + j ≡ k - 1 = omega (arith, h) in
+      let on : j + 1 ≡ k + 1 - (i + 1) = omega (arith, h) in
+      ap (λ (l : List X). set l (k - 1) x) e
+      ∙ ap (λ (n : ℕ). set (copy_within xs (i + 1) k i) n x) (sym to)
+      ∙ follows j x (omega (arith, from, b))
+      (read ∙ ap (λ (l : List X). get_or l k x) e ∙ ap (λ (n : ℕ). get_or (copy_within xs (i + 1) k i) n x) (sym from))
+      ∙ ap (paste xs i (drop (i + 1) xs)) on

@@ -78,6 +78,17 @@ fn renew_lines(
     }
 }
 
+// The items behind item i move up by one, up to item `end`, which does not; the last of these places keeps what it had.
+// Kept: a loop, for the reason that join's `remove_word` gives.
+fn move_up<T: Copy>(items: &mut [T], i: usize, end: usize)
+    requires { (i < end) × (end ≤ length items.old) }
+    ensures { items.new ≡ copy_within items.old (i + 1) end i }
+{
+    for k in i + 1..end {
+        items[k - 1] = items[k];
+    }
+}
+
 // The lines behind line i move up by one; those that were rewritten get `own`, the kinds that they told and those of line i.
 // Not inlined: a cleaning that keeps no cautions is faster where this does not stand in its attempts.
 #[inline(never)]
@@ -99,8 +110,7 @@ pub(crate) fn hand_on(
 {
     let lines = listing.lines.len() + 1;
     let all = own | (uses_kinds(listing, i, last, parts) | sets[i]);
-    // Kept: within the parts, so that all places but the end are literals: the compiler then moves each as one block, and else one by one.
-    sets[i..lines].copy_within(1.., 0);
-    forms[i..lines].copy_within(1.., 0);
+    move_up(sets, i, lines);
+    move_up(forms, i, lines);
     renew_lines(listing, i, last, all, parts, sets, forms);
 }

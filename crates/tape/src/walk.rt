@@ -69,7 +69,7 @@ impl<'a, const BASED: bool> Commands<'a, BASED> {
         }
     }
 
-    // The place of the next command, or of what stands where none does.
+    // The place of the next command. With none left, a place where none stands whole but the end; which such place is not promised.
     pub fn at(&self) -> usize
         ensures { result ≡ self.now.at }
     {

@@ -1,4 +1,4 @@
--- The first word of a slice, and what is left behind it. Assumes nothing.
+-- The first word of a slice, and what is left behind it: each turn of a loop over words. Assumes nothing.
 use Prim.Native.Nat.{ℕ, suc, ◌+◌, ◌-◌, ◌≤◌, ◌<◌}
 use native.Mathlib.Omega.{arith}
 use native.Mathlib.Decide.{dec_lt, ℕ_discrete}
@@ -14,7 +14,9 @@ use borrow.Author.Tests.{eq-eqb, ne_eqb}
 use Rattle.std.specs.List.{prefix_len}
 use Rattle.std.proofs.lemmas.List.Sums.{prefix_len-le-length, prefix_len_passes, prefix_len_stops}
 use Rattle.reference.specs.Control.{when◌then◌else◌}
-use Rattle.words.specs.Splitting.{onto, split, EndsAt}
+use Rattle.reference.specs.Text.{Text, ◌≟◌}
+use Rattle.laws.proofs.Scans.{if-true, if-false}
+use Rattle.words.specs.Splitting.{onto, split, number_of, EndsAt}
 
 abbrev NoZero : List ℕ → Type 0
 NoZero w = (i : ℕ) → i < length w → get_or w i 0 ≡ 0 → ⊥
@@ -68,6 +70,16 @@ module _ (words : List ℕ) {at e : ℕ} (h : at < length words) (ends : EndsAt 
       let some_byte : 0 < length (drop at words) = omega (arith, length-drop at words) in
       let n : NoZero (drop at words) = rw whole at no_zero in
       word-only (drop at words) some_byte n ∙ rw (whole, none) refl)
+
+  -- a turn of the search
+  pub found_word : (w : Text) → (take (e - at) (drop at words) ≟ w) ≡ true → number_of (split (drop at words)) w ≡ 0
+  unfolding number_of
+  found_word w f = ap (λ (ws : List Text). number_of ws w) first_word ∙ if-true _ _ f
+
+  pub next_word : (w : Text) → (take (e - at) (drop at words) ≟ w) ≡ false
+      → number_of (split (drop at words)) w ≡ suc (number_of (split (drop (e + 1) words)) w)
+  unfolding number_of
+  next_word w f = ap (λ (ws : List Text). number_of ws w) first_word ∙ if-false _ _ f
 
 pub no_word : (words : List ℕ) (at : ℕ) → length words ≤ at → split (drop at words) ≡ []
 unfolding split

@@ -6,4 +6,4 @@ mod numerals; // digits that stand for a number
 mod splitting; // words, each ended by a 0
 
 pub use numerals::{base_in, integer_in, number_in};
-pub use splitting::{nth_word, word_end};
+pub use splitting::{nth_word, number_of, word_end};

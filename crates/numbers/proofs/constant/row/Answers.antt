@@ -25,11 +25,11 @@ pub loop-rest-preserved : goal.loop-rest-preserved
 loop-rest-preserved c =
     let a = c.args in
     let l = c.loop-rest in
-    let r = digit-read a.most a.radix l.v l.rest.now c.requires c.in-len1-up.len_at_least c.in_ok-v.ensures in
+    let d = digit-read a.most a.radix l.v l.rest.now c.requires c.in-len1-up.len_at_least c.in_ok-v.ensures in
     let n = not_empty _ c.is_empty.ensures c.if-is_empty.false in
     let q = rw take_rest at c.past_quote-rest.ensures in
     let m : 0 < length (drop 1 l.rest.now) = omega (arith, n, ap length (take_rest l.rest.now 1)) in
-    l.invariant ∙ r.1 ∙ ap (at_most a.most) (q.means a.radix c.in_ok-v.v m)
+    l.invariant ∙ d.1 ∙ ap (at_most a.most) (q.means a.radix c.in_ok-v.v m)
 
 pub returns : goal.returns
 returns c =

@@ -10,11 +10,11 @@ pub all-requires-clause-callable : goal.all-requires-clause-callable
 all-requires-clause-callable c =
     let a = c.args in
     let g = a.listing.now in
-    serves_after g.texts.tape.now g.texts.area.now g.tokens.now g.lines.now a.v.start a.last c.requires.0 c.requires.3 (search rules) (search rules) (λ x q k. search rules) (λ x h. search rules)
+    serves_after g.texts.tape.now g.texts.area.now g.tokens.now g.lines.now a.i a.last c.requires.0 c.requires.3 (search rules) (search rules) (λ x q k. search rules) (λ x h. search rules)
 
 pub returns : goal.returns
 returns c =
     let a = c.args in
     let g = a.listing.now in
-    all_after g.texts.tape.now g.texts.area.now g.tokens.now g.lines.now a.v.start a.last (fam_text g.texts a.v.family) (volatile (rules_of a.v.rules)) _ _ _
+    all_after g.texts.tape.now g.texts.area.now g.tokens.now g.lines.now a.i a.last (fam_text g.texts a.family) (volatile (rules_of a.rules)) _ _ _
     c.all.ensures.ran (search rules) (search rules) (λ x b q k. search rules)

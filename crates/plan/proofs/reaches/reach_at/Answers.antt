@@ -12,12 +12,12 @@ returns-in-Kill c = search (rules, reach_kill)
 
 pub returns-then-opens_or_closes : goal.returns-then-opens_or_closes
 returns-then-opens_or_closes c =
-    let er : Looks c.args.j c.args.last c.touch.result c.match-touch.last =
-    elim c.match-touch.branch [ in-Nothing w ↦ inl (w.in-Nothing.is, w.last-is) | in-Use w ↦ inr (_, w.in-Use.is, w.last-is) ] in
+    let er : Looks c.args.j c.args.r c.touch.result c.match-touch.r =
+    elim c.match-touch.branch [ in-Nothing w ↦ inl (w.in-Nothing.is, w.r-is) | in-Use w ↦ inr (_, w.in-Use.is, w.r-is) ] in
     search (rules, reach-breaks)
 
 pub returns-else-opens_or_closes : goal.returns-else-opens_or_closes
 returns-else-opens_or_closes c =
-    let er : Looks c.args.j c.args.last c.touch.result c.match-touch.last =
-    elim c.match-touch.branch [ in-Nothing w ↦ inl (w.in-Nothing.is, w.last-is) | in-Use w ↦ inr (_, w.in-Use.is, w.last-is) ] in
+    let er : Looks c.args.j c.args.r c.touch.result c.match-touch.r =
+    elim c.match-touch.branch [ in-Nothing w ↦ inl (w.in-Nothing.is, w.r-is) | in-Use w ↦ inr (_, w.in-Use.is, w.r-is) ] in
     search (rules, reach_goes)

@@ -8,4 +8,4 @@ use Rattle.plan.proofs.reaches.reach_of.Given as goal
 abbrev pub invariant-loop-j : goal.invariant-loop-j
 invariant-loop-j l =
     let g = l.listing in
-    Reached g.texts.tape.now g.texts.area.now g.tokens.now g.lines.now l.v.start (fam_text g.texts l.v.family) (volatile (rules_of l.v.rules)) l.j l.last
+    Reached g.texts.tape.now g.texts.area.now g.tokens.now g.lines.now l.i (fam_text g.texts l.family) (volatile (rules_of l.fn.rules)) l.j l.r

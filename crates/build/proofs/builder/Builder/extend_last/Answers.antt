@@ -6,7 +6,7 @@ use lib.ListN.{length, length-take}
 use Rattle.std.proofs.lemmas.Slice.{put_mid-paste}
 use Rattle.lines.proofs.words.Tokens.{kind_below, start_below}
 use Rattle.build.specs.Builders.{last_word}
-use Rattle.build.proofs.Appending.{joined, lengthened-to, place_at}
+use Rattle.build.proofs.Appending.{joined, lengthened-to, behind_at}
 use Rattle.build.proofs.builder.Builder.extend_last.Goals as goal
 
 pub word_between-longer-requires : goal.word_between-longer-requires
@@ -30,6 +30,6 @@ pub returns-clause-in_area : goal.returns-clause-in_area
 returns-clause-in_area c =
     let b = c.args.self.now in
     let w = last_word b in
-    place_at b.tokens.now (b.size.tokens - 1) c.kind.result c.start.result _ (omega (arith, c.requires.1.words_fit))
+    behind_at b.tokens.now (b.size.tokens - 1) c.kind.result c.start.result _ (omega (arith, c.requires.1.words_fit))
     (omega (arith, kind_below w, c.kind.ensures)) (omega (arith, start_below w, c.start.ensures))
     (simp length-take (omega (arith, c.requires.1.short))) c.word_between-longer.ensures
