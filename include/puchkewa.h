@@ -5,7 +5,7 @@
  *
  * Each function is proved to meet what is said here, for every input (crates/puchkewa/src). The promise of the cleaning is `Cleans` in
  * crates/clean/specs/Replies.antt, that of a call that writes a tape is `WritesTold` in crates/answers/specs/Answers.antt. The functions keep no state,
- * allocate nothing and call nothing of C but memset, memcpy and memmove. Calls in several threads are safe where they share no memory that one of them
+ * allocate nothing and call nothing of C but memset and memcpy. Calls in several threads are safe where they share no memory that one of them
  * writes. A cleaned listing need not mean the same as the raw one (docs/DIFFERENCES.md).
  *
  * What no call can ask, and its caller must see to:

@@ -12,6 +12,7 @@ use crate::builder::Builder;
 use lines::texts::Texts;
 use lines::traits::area_word;
 use lines::words;
+use text::copy;
 
 impl Builder<'_> {
     // Appends a token whose text is in the tape.
@@ -36,7 +37,7 @@ impl Builder<'_> {
         // for where it ends, would be three statements for three.
         let at = self.size.text;
         let end = at + s.len();
-        self.area[at..end].copy_from_slice(s);
+        copy(s, &mut self.area[at..end]);
         self.tokens[self.size.tokens] = area_word(kind, at, s);
         self.size.tokens += 1;
         self.size.text = end;
@@ -53,7 +54,7 @@ impl Builder<'_> {
         let s = words::text(texts, w);
         let at = self.size.text;
         let end = at + s.len();
-        self.area[at..end].copy_from_slice(s);
+        copy(s, &mut self.area[at..end]);
         self.tokens[self.size.tokens] = words::moved(w, at);
         self.size.tokens += 1;
         self.size.text = end;
@@ -87,7 +88,7 @@ impl Builder<'_> {
         let at = self.size.text;
         let w = self.tokens[n];
         let end = at + s.len();
-        self.area[at..end].copy_from_slice(s);
+        copy(s, &mut self.area[at..end]);
         let longer = self.word_between(words::kind(w), words::start(w), end);
         self.tokens[n] = longer;
         self.size.text = end;

@@ -8,6 +8,7 @@ ghost use Rattle.editions.specs.Conversion.{to_2018, to_2024};
 use crate::questions::first_place;
 use crate::writing::lower;
 use answers::{Answer, Reason};
+use text::copy;
 
 // Once the tape is read.
 // Kept: that the tape is accepted stands as a clause, here and of `first_place` and `lower`, as in the other crates that go on with an
@@ -31,7 +32,7 @@ fn raised(tape: &[u8], out: &mut [u8]) -> Answer
     match first_place::<true>(tape) {
         Some(place) => Err(Reason::NewKeyword.at(place)),
         None => {
-            out[..tape.len()].copy_from_slice(tape);
+            copy(tape, &mut out[..tape.len()]);
             // Kept: there is no `From` from usize to u64, and `try_from` has a branch that no length takes.
             Ok(tape.len() as u64)
         }

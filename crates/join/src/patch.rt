@@ -20,6 +20,7 @@ use lines::texts::{Size, Texts};
 use lines::words;
 use plan::changing::is_changed;
 use plan::plans::Join;
+use text::copy;
 
 // Line `gone` goes: the words behind it move up by one, and the last place keeps what it had.
 fn remove_word(lines: &mut [u64], gone: usize)
@@ -108,7 +109,13 @@ pub fn patch(tape: &[u8], room: &mut Workspace<'_>, j: Join, rules: Rules, size:
         &mut second,
     );
     let after = second.size;
-    area[size.text..after.text].copy_from_slice(&second.area[size.text..after.text]);
-    tokens[size.tokens..after.tokens].copy_from_slice(&second.tokens[size.tokens..after.tokens]);
+    copy(
+        &second.area[size.text..after.text],
+        &mut area[size.text..after.text],
+    );
+    copy(
+        &second.tokens[size.tokens..after.tokens],
+        &mut tokens[size.tokens..after.tokens],
+    );
     after
 }

@@ -14,6 +14,7 @@ use ground::rules::Rules;
 use lines::texts::{Size, Texts};
 use plan::changing::is_changed;
 use plan::plans::Join;
+use text::copy;
 
 // Appends line k, whose word is l, to the second set: with the right side of the line `source` for each token of the family, or as it is;
 // answers its new word.
@@ -96,7 +97,7 @@ pub fn rebuild(tape: &[u8], room: &mut Workspace<'_>, j: Join, rules: Rules, siz
         &mut second,
     );
     let after = second.size;
-    area[..after.text].copy_from_slice(&second.area[..after.text]);
-    tokens[..after.tokens].copy_from_slice(&second.tokens[..after.tokens]);
+    copy(&second.area[..after.text], &mut area[..after.text]);
+    copy(&second.tokens[..after.tokens], &mut tokens[..after.tokens]);
     after
 }

@@ -15,6 +15,7 @@ use lines::fams::Fam;
 use lines::texts::{Listing, Texts};
 use lines::traits::{self, has};
 use lines::words;
+use text::copy;
 
 // The names, and a word for each.
 // Kept: words that point into a buffer, not a list of texts: the names are copied when a round begins, since the area that they stand in is
@@ -47,7 +48,7 @@ impl SlotBuffer<'_> {
         ensures lent { SameSlots self.old self.new }
     {
         let end = self.used + s.len();
-        self.text[self.used..end].copy_from_slice(s);
+        copy(s, &mut self.text[self.used..end]);
         self.words[self.count] = words::token_word(
             kinds::PLAIN,
             words::IN_AREA,

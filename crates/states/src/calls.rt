@@ -11,7 +11,7 @@ ghost use Rattle.states.specs.Answers.{cell_of, spot_of, opened_of, listed_of, S
 use crate::cells::{Cells, Entry, cell_start};
 use crate::sizes::{ROOM_BYTES, STORE_BYTES};
 use answers::{Answer, Reason, Refusal};
-use text::Cursor;
+use text::{Cursor, copy};
 
 // The cell that a tape is saved in: the one that is held under the name, or the first free one.
 #[derive(Clone, Copy, Debug, PartialEq, Eq)]
@@ -140,7 +140,7 @@ fn copy_out(store: &Cells<'_>, i: usize, out: &mut [u8]) -> usize
     ensures out_after { out.new ≡ tape_of (cell store.now.bytes.now i) ++ drop result out.old }
 {
     let tape = store.held_tape(i);
-    out[..tape.len()].copy_from_slice(tape);
+    copy(tape, &mut out[..tape.len()]);
     tape.len()
 }
 

@@ -108,6 +108,9 @@ fn ask_token(kind: u64, text: &[u8], at: usize, totals: Totals) -> Result<(), Re
 }
 
 // The question that refuses a command that stands whole at an offset, if there is one.
+// Inlined, as `read_command`, `step_on` and `check` are: called, each hands its `Result` on through memory, and a walk over a tape takes
+// two to five times as long.
+#[inline(always)]
 fn ask(reader: TapeReader<'_>, command: Command, totals: Totals) -> Result<(), Refusal>
     requires { reader.at + looked_at command ≤ length reader.tape.now }
     ensures { said result ≡ asking (drop reader.entry.at reader.entry.tape.now) reader.entry.at (totals_of totals)
@@ -163,6 +166,7 @@ pub fn count_in(command: Command, totals: Totals) -> Totals
 
 // Reads the command at the reader's offset, in a tape of either form, the totals so far being given: any, also such as no tape reaches. The
 // answer depends only on them and on the tape from the offset on (`FromHereBy`, request M-102).
+#[inline(always)]
 pub fn read_command<const BASED: bool>(
     reader: TapeReader<'_>,
     totals: Totals,
@@ -204,6 +208,7 @@ pub const NONE: Totals = Totals {
 };
 
 // Reads the command at the reader's offset; at FF there is none more.
+#[inline(always)]
 fn step_on<const BASED: bool>(
     reader: TapeReader<'_>,
     totals: Totals,
@@ -223,6 +228,7 @@ fn step_on<const BASED: bool>(
 // (`AcceptedTape`) is asked in twelve contracts of the crates above; each would name the struct's bytes in place of the tape, in all that
 // it asks and promises, and no clause but this one would go. The public calls take any bytes and `load` of crate tables, which is public,
 // would ask more of its callers. And crate sources goes on with an accepted tape that no `check` saw: the copy that it wrote (`came_into`).
+#[inline(always)]
 pub fn check<const BASED: bool>(tape: &[u8]) -> Result<Totals, Refusal>
     ensures { checked result ≡ (let_passed (read_by (form_of BASED) tape.now) then λ lines. Passed (sizes_in lines)) }
 {

@@ -3,6 +3,8 @@ ghost use Rattle.std.specs.Prelude.{◌≡◌, [], ◌∷◌, length};
 ghost use Rattle.reference.specs.Tape.{to_le_bytes};
 ghost use Rattle.text.specs.Cursor.{Fits, Puts};
 
+use crate::copying::copy;
+
 // A lent slice, and where the next byte goes.
 #[derive(Drop)]
 pub struct Cursor<'a> {
@@ -33,7 +35,7 @@ impl<'a> Cursor<'a> {
         ensures { Puts self.old s.now self.new }
     {
         let end = self.at + s.len();
-        self.out[self.at..end].copy_from_slice(s);
+        copy(s, &mut self.out[self.at..end]);
         self.at = end;
     }
 

@@ -12,7 +12,7 @@ returns-in-Some c =
 
 pub returns-in-None : goal.returns-in-None
 returns-in-None c =
-    let copied = ap (λ (t : List ℕ). t ++ drop (length c.args.tape.now) c.args.out.now) c.copy_from_slice.ensures.after in
+    let copied = ap (λ (t : List ℕ). t ++ drop (length c.args.tape.now) c.args.out.now) c.copy.ensures in
     finished 12 earns_12 up_token c.args.tape.now c.args.out.now c.requires.1 c.requires.0
     (c.in-None.ensures)
     (copied-up c.args.tape.now c.args.out.now c.requires.0 (λ i. omega (arith, c.type_inv.tape i)) (c.in-None.ensures) copied)

@@ -10,4 +10,4 @@ returns-clause-acted c =
     let r = a.room.now in
     let e = c.patch_lines.ensures in
     settled r.area.now r.tokens.now e.patched c.requires.2 (spare_as c.requires.3 e.lent.area_length e.lent.tokens_length) (drop a.size.lines r.lines.now)
-    c.copy_from_slice.ensures.after c.copy_from_slice-2.ensures.after
+    c.copy.ensures c.copy-2.ensures

@@ -12,8 +12,8 @@ returns-clause-appends c =
     let b = c.args.self.now in
     let s = c.args.s.now in
     let p = c.requires in
-    let pasted = put_mid-paste b.size.text (b.size.text + length s - b.size.text) b.area.now c.copy_from_slice.new.self
-    s (length s) c.copy_from_slice.ensures.after (omega arith) refl in
+    let pasted = put_mid-paste b.size.text (b.size.text + length s - b.size.text) b.area.now c.copy.new.to
+    s (length s) c.copy.ensures (omega arith) refl in
     λ tape. copied tape b.area.now b.tokens.now b.size c.args.kind s p.0 p.1 pasted c.area_word.ensures
 
 pub returns-clause-in_area : goal.returns-clause-in_area

@@ -20,8 +20,8 @@ returns-clause-appends c =
     let s = c.args.s.now in
     let p = c.requires in
     let n = b.size.tokens - 1 in
-    let pasted = put_mid-paste b.size.text (b.size.text + length s - b.size.text) b.area.now c.copy_from_slice.new.self
-    s (length s) c.copy_from_slice.ensures.after (omega arith) refl in
+    let pasted = put_mid-paste b.size.text (b.size.text + length s - b.size.text) b.area.now c.copy.new.to
+    s (length s) c.copy.ensures (omega arith) refl in
     let same : n + 1 ≡ b.size.tokens = omega arith in
     let ew = rw (c.kind.ensures, c.start.ensures) at c.word_between-longer.ensures in
     λ tape. lengthened-to tape b.area.now b.tokens.now b.size n s p.1 (omega arith) p.2 p.3 pasted (joined tape b.area.now b.tokens.now b.size n s p.1 (omega arith) p.2 p.3 pasted) ew same
