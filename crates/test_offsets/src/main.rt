@@ -80,12 +80,18 @@ fn call(f: Frame<'_>, out: &mut [u8]) -> Told {
     })
 }
 
+// Whether reply and output are as wanted. A wanted tape that is longer than all that can be lent is not put: then nothing may be written.
 fn is_right(f: Frame<'_>, told: Told, out: &[u8]) -> bool {
     if told != f.told {
         print(b"another reply\n");
         return false;
     }
-    if !is_output(out, f.wanted) {
+    let wanted = if f.wanted.len() <= out.len() {
+        f.wanted
+    } else {
+        &[]
+    };
+    if !is_output(out, wanted) {
         print(b"another output\n");
         return false;
     }
