@@ -76,6 +76,16 @@ module _ (k start : ℕ) (u : Text) (hk : k < 8) (hs : start < 65536) (hl : leng
 
   module _ (tape area : Text) (here : take (length u) (drop start (source tape area 1)) ≡ u) (inside : start + length u ≤ length (source tape area 1))
       (short : start + length u < 65536) where
+    known-tells : Tells tape area k start u (known_word k 1 start u)
+    known-tells =
+        record {
+          place = known_place k 1 start u hk (omega arith) hs hl;
+          starts = known_start k 1 start u hk (omega arith) hs hl;
+          size = known_len k 1 start u hk (omega arith) hs hl;
+          points = known-points k 1 start u hk (omega arith) hs hl tape area here inside short;
+          means = known-means k 1 start u hk (omega arith) hs hl tape area here;
+        }
+
     behind-tells : Tells tape area k start u (word_behind k start u)
     unfolding when◌then◌else◌
     behind-tells = by (ltb 16 (length u))
@@ -89,14 +99,7 @@ module _ (k start : ℕ) (u : Text) (hk : k < 8) (hs : start < 65536) (hl : leng
               points = word-points k 1 start (length u) hk (omega arith) hs hl tape area inside short;
               means = word-means k 1 start (length u) hk (omega arith) hs hl tape area ∙ ap (token k) here;
             }
-        by false =
-            record {
-              place = known_place k 1 start u hk (omega arith) hs hl;
-              starts = known_start k 1 start u hk (omega arith) hs hl;
-              size = known_len k 1 start u hk (omega arith) hs hl;
-              points = known-points k 1 start u hk (omega arith) hs hl tape area here inside short;
-              means = known-means k 1 start u hk (omega arith) hs hl tape area here;
-            }
+        by false = known-tells
 
 -- the word by its two ways
 behind-within : (from end : ℕ) (xs : List ℕ) → end ≤ length xs → length (take (end - from) (drop from xs)) ≡ end - from
@@ -155,28 +158,55 @@ module _ (tape area : Text) (tokens : List ℕ) (at : Size) (n : ℕ) (s : Text)
   joined {area'} e =
       sym (drop-take (start_of w) (at.text + length s) area') ∙ rw (take_behind area at.text s (omega (arith, r.text_fits)) e) (drop-append-le (start_of w) (used area at) s (omega (arith, ul)))
 
-  pub lengthened : {area' u : Text} {v : ℕ} → area' ≡ paste area at.text s (length s) → u ≡ front ++ s → v ≡ word_behind (kind_of w) (start_of w) u
+  -- the whole text u
+  module _ {u : Text} (eu : u ≡ front ++ s) where
+    whole-length : length u ≡ len_of w + length s
+    whole-length = ap length eu ∙ rw (length-append, length-drop) (omega (arith, ul))
+
+    whole_here : take (length u) (drop (start_of w) (source tape (used area at ++ s) 1)) ≡ u
+    whole_here = rw (in_area tape (used area at ++ s) one_not_zero, drop-append-le (start_of w) (used area at) s (omega (arith, ul)), ← eu) (take-length u)
+
+    whole_inside : start_of w + length u ≤ length (source tape (used area at ++ s) 1)
+    whole_inside = rw (in_area tape (used area at ++ s) one_not_zero, length-append) (omega (arith, ul, whole-length))
+
+  -- by any word x that tells it
+  told : {area' u : Text} {v x : ℕ} → area' ≡ paste area at.text s (length s) → u ≡ front ++ s → v ≡ x → Tells tape (used area at ++ s) (kind_of w) (start_of w) u x
       → Appends tape area tokens at n (token (kind_of w) (text_of tape (used area at) w ++ s)) (length s) area' (set tokens n v)
       (record { lines = at.lines; tokens = n + 1; text = at.text + length s })
   unfolding text_of
-  lengthened {u = u} e eu ev =
-      let lu : length u ≡ len_of w + length s = ap length eu ∙ rw (length-append, length-drop) (omega (arith, ul)) in
-      let hu : length u < 65536 = omega (arith, r.short) in
-      let at-end = in_area tape (used area at ++ s) one_not_zero in
-      let here : take (length u) (drop (start_of w) (source tape (used area at ++ s) 1)) ≡ u =
-      rw (at-end, drop-append-le (start_of w) (used area at) s (omega (arith, ul)), ← eu) (take-length u) in
-      let x = behind-tells (kind_of w) (start_of w) u (kind_below w) (start_below w) hu tape (used area at ++ s) here
-      (rw (at-end, length-append) (omega (arith, ul))) (omega (arith, r.short)) in
+  told e eu ev x =
       stored tape area tokens at n s r.text_fits (omega (arith, r.words_fit)) e ev x.points
       (x.means ∙ ap (token (kind_of w)) (rw (pl, in_area tape (used area at) one_not_zero, whole) eu))
-      (λ _. rw (x.starts, x.size) (omega arith))
+      (λ _. rw (x.starts, x.size) (omega (arith, whole-length eu)))
       (λ m h f _. rw x.starts (f below pl))
 
+  pub lengthened : {area' u : Text} {v : ℕ} → area' ≡ paste area at.text s (length s) → u ≡ front ++ s → v ≡ known_word (kind_of w) 1 (start_of w) u
+      → Appends tape area tokens at n (token (kind_of w) (text_of tape (used area at) w ++ s)) (length s) area' (set tokens n v)
+      (record { lines = at.lines; tokens = n + 1; text = at.text + length s })
+  lengthened {u = u} e eu ev =
+      told e eu ev
+      (known-tells (kind_of w) (start_of w) u (kind_below w) (start_below w) (omega (arith, r.short, whole-length eu)) tape (used area at ++ s) (whole_here eu) (whole_inside eu)
+      (omega (arith, r.short, whole-length eu)))
+
   -- the same, where k tokens are then in use
-  pub lengthened-to : {area' u : Text} {v k : ℕ} → area' ≡ paste area at.text s (length s) → u ≡ front ++ s → v ≡ word_behind (kind_of w) (start_of w) u → n + 1 ≡ k
+  pub lengthened-to : {area' u : Text} {v k : ℕ} → area' ≡ paste area at.text s (length s) → u ≡ front ++ s → v ≡ known_word (kind_of w) 1 (start_of w) u → n + 1 ≡ k
       → Appends tape area tokens at n (token (kind_of w) (text_of tape (used area at) w ++ s)) (length s) area' (set tokens n v)
       (record { lines = at.lines; tokens = k; text = at.text + length s })
   lengthened-to e eu ev ek = rw (← ek) (lengthened e eu ev)
+
+  -- both, where of a long text no traits are kept in the word
+  pub lengthened_behind : {area' u : Text} {v : ℕ} → area' ≡ paste area at.text s (length s) → u ≡ front ++ s → v ≡ word_behind (kind_of w) (start_of w) u
+      → Appends tape area tokens at n (token (kind_of w) (text_of tape (used area at) w ++ s)) (length s) area' (set tokens n v)
+      (record { lines = at.lines; tokens = n + 1; text = at.text + length s })
+  lengthened_behind {u = u} e eu ev =
+      told e eu ev
+      (behind-tells (kind_of w) (start_of w) u (kind_below w) (start_below w) (omega (arith, r.short, whole-length eu)) tape (used area at ++ s) (whole_here eu) (whole_inside eu)
+      (omega (arith, r.short, whole-length eu)))
+
+  pub lengthened_behind-to : {area' u : Text} {v k : ℕ} → area' ≡ paste area at.text s (length s) → u ≡ front ++ s → v ≡ word_behind (kind_of w) (start_of w) u → n + 1 ≡ k
+      → Appends tape area tokens at n (token (kind_of w) (text_of tape (used area at) w ++ s)) (length s) area' (set tokens n v)
+      (record { lines = at.lines; tokens = k; text = at.text + length s })
+  lengthened_behind-to e eu ev ek = rw (← ek) (lengthened_behind e eu ev)
 
 -- a token that stays in the tape
 module _ (tape old area : Text) (tokens : List ℕ) (at : Size) (w : ℕ) (pl : buffer_of w ≡ 0) (below : at.tokens < length tokens) where

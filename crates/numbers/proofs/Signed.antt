@@ -11,7 +11,7 @@ use mir.ValLaws.{to_z-of_z, to_z_pos}
 use Rattle.reference.specs.Numbers.{as_i64, wrap}
 use Rattle.laws.proofs.Scans.{if-true, if-false}
 use Rattle.numbers.specs.Bits.{bits_of}
-use Rattle.std.specs.Int.{cast_signed, cast_unsigned, int_wrapping_add, int_wrapping_sub, int_wrapping_neg}
+use Rattle.std.specs.Int.{cast_signed, cast_unsigned, int_wrap, int_wrapping_add, int_wrapping_sub, int_wrapping_neg}
 use Rattle.numbers.proofs.Bits.{bits_below, bits_add, bits_sub}
 
 -- ---- `as i64`
@@ -61,6 +61,12 @@ signed-std n h =
     by_cases (dec_lt n (2 ^ 63))
     (λ l. to_z_pos w64 n l ∙ sym (as_low n l))
     (λ l. to_z_high n (omega arith) h ∙ sym (as_high n (omega arith) h))
+
+-- what std wraps at 64 bits, for any number; what the code computes goes through the bits, below
+pub wrap-std : (z : ℤ) → int_wrap w64 z ≡ wrap z
+unfolding int_wrap wrap as_i64
+wrap-std (pos n) = signed-std (n % 2 ^ 64) (mod-lt n (omega arith)) ∙ rw (mod-mod n (2 ^ 64))
+wrap-std (negsuc n) = ap (cast_signed w64) (omega arith) ∙ signed-std (2 ^ 64 - suc (n % 2 ^ 64)) (omega arith)
 
 -- ---- sums, differences and negations, through the bits: of any width (Bits), and here of 64
 

@@ -6,7 +6,7 @@ use lib.ListN.{length, length-take}
 use Rattle.std.proofs.lemmas.Slice.{put_mid-paste}
 use Rattle.lines.proofs.words.Tokens.{kind_below, start_below}
 use Rattle.build.specs.Builders.{last_word}
-use Rattle.build.proofs.Appending.{joined, lengthened-to, behind_at}
+use Rattle.build.proofs.Appending.{joined, lengthened_behind-to, behind_at}
 use Rattle.build.proofs.builder.Builder.extend_last.Goals as goal
 
 pub word_between-longer-requires : goal.word_between-longer-requires
@@ -24,7 +24,7 @@ returns-clause-appends c =
     s (length s) c.copy.ensures (omega arith) refl in
     let same : n + 1 ≡ b.size.tokens = omega arith in
     let ew = rw (c.kind.ensures, c.start.ensures) at c.word_between-longer.ensures in
-    λ tape. lengthened-to tape b.area.now b.tokens.now b.size n s p.1 (omega arith) p.2 p.3 pasted (joined tape b.area.now b.tokens.now b.size n s p.1 (omega arith) p.2 p.3 pasted) ew same
+    λ tape. lengthened_behind-to tape b.area.now b.tokens.now b.size n s p.1 (omega arith) p.2 p.3 pasted (joined tape b.area.now b.tokens.now b.size n s p.1 (omega arith) p.2 p.3 pasted) ew same
 
 pub returns-clause-in_area : goal.returns-clause-in_area
 returns-clause-in_area c =
